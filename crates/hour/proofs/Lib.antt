@@ -1,0 +1,5 @@
+pub mod Tables
+pub mod Outcomes
+pub mod Soundness
+pub mod TradeSteps
+pub mod PricedSteps

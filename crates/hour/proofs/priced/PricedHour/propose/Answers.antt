@@ -1,0 +1,14 @@
+use Rattle.hour.proofs.PricedSteps.{Kept, propose-kept, propose-words}
+use Rattle.hour.proofs.priced.PricedHour.propose.Needs as need
+
+pub ghost-self : need.ghost-self
+ghost-self c =
+    let h = c .args .self .now in
+    let kept : Kept (h .book) = (h .tables, (h .offers, (h .readings, (h .joined, tt)))) in
+    propose-kept (h .book) (c .args .number) (c .args .source) (c .args .sink) (c .args .kwh) (c .propose .result) _ kept (c .propose .ensures .answer) (c .propose .ensures .state)
+
+pub returns : need.returns
+returns c =
+    let h = c .args .self .now in
+    let kept : Kept (h .book) = (h .tables, (h .offers, (h .readings, (h .joined, tt)))) in
+    propose-words (h .book) (c .args .number) (c .args .source) (c .args .sink) (c .args .kwh) (c .propose .result) _ kept (c .propose .ensures .answer) (c .propose .ensures .state)

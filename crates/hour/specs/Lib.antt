@@ -1,0 +1,12 @@
+pub mod Fault
+pub mod Reason
+pub mod Kind
+pub mod Instruction
+pub mod Table
+pub mod Minute
+pub mod Blocks
+pub mod Market
+pub mod Trading
+pub mod Book
+pub mod Priced
+pub mod Question

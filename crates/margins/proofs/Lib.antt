@@ -1,0 +1,4 @@
+pub mod Lists
+pub mod Ordering
+pub mod Payments
+pub mod Worked

@@ -1,0 +1,4 @@
+pub mod Side
+pub mod Order
+pub mod Energy
+pub mod Payment

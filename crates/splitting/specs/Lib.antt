@@ -1,0 +1,9 @@
+pub mod Fault
+pub mod Weights
+pub mod Rule
+pub mod Either
+pub mod Proportion
+pub mod Running
+pub mod Places
+pub mod Largest
+pub mod Figures

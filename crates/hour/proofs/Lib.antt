@@ -1,5 +1,14 @@
 pub mod Tables
+pub mod Sums
 pub mod Outcomes
 pub mod Soundness
+pub mod Leading
+pub mod Limits
+pub mod Listings
+pub mod Charges
+pub mod Runs
+pub mod Drawings
 pub mod TradeSteps
+pub mod Joining
 pub mod PricedSteps
+pub mod RunSteps

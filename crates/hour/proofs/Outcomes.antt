@@ -61,3 +61,8 @@ getD-set-has P (y ∷ ys) (suc i) (suc k) x d new old = getD-set-has P ys i k x 
 pub cond-some : {A : Type 0} (b : Bool) (x y : A) → Some y ≡ cond b (Some x) None → y ≡ x
 cond-some true x y e = cc
 cond-some false x y e = let z : _≡_ {A = ℕ} 0 1 = cc in absurd (omega arith)
+
+-- a check that is passed
+pub passed : {A E : Type 0} (t : Bool) (x y : A) (e : E) → _≡_ {A = Result A E} (Ok x) (cond t (Err e) (Ok y)) → t ≡ false
+passed true x y e h = let z : _≡_ {A = ℕ} 0 1 = cc in absurd (omega arith)
+passed false x y e h = refl

@@ -30,8 +30,11 @@ use Rattle.hour.specs.declared.instruction.Event.the-variants.{Propose, Confir
 use Rattle.hour.specs.Reason.{Reason, answer, Rising, outside}
 use Rattle.hour.specs.Instruction.{next-stage, terms-of}
 use Rattle.hour.specs.Market.{outcome, asset-at, record-at, no-record, blocks-at, reading-at}
-use Rattle.hour.specs.Book.{FullBook, instruction-at, joined-by, joins, is-source, is-sink, owner-of, with-instruction, stepped, terms, meter-reasons, metered, propose-reasons, proposed, confirm-reasons, confirmed, withdraw-reasons, withdrawn}
+use Rattle.hour.specs.Line.{Item, amount-of, Within}
+use Rattle.hour.specs.Run.{out-amounts, full-run}
+use Rattle.hour.specs.Book.{FullBook, no-amounts, instruction-at, joined-by, joins, is-source, is-sink, owner-of, with-instruction, stepped, terms, meter-reasons, metered, propose-reasons, proposed, confirm-reasons, confirmed, withdraw-reasons, withdrawn}
 use Rattle.hour.specs.Priced.{OnlyReading, Metering, OnlyInstruction, Joined, Proposal, Match, Confirmation, Release, Withdrawal}
+use Rattle.hour.proofs.Joining.{joined-parts, proposed-joins, still-joined, freed}
 use Rattle.hour.proofs.Outcomes.{after-if, after-has, accepted, untouched, NoneFits, none-fits, getD-set-has}
 
 -- what a priced hour keeps true of its tables
@@ -41,7 +44,10 @@ Kept b =
     × (((k j : ℕ) → price-at (blocks-at (b .market) k) j ≤ 99999)
     × (((k : ℕ) → reading-at (b .market) k ≤ 1000000)
     × (((k : ℕ) → joins (b .market .schedule .assets) (instruction-at b k) ≡ true)
-    × Unit {0})))
+    × (((k : ℕ) (item : Item) → Within 10000000000000000 (amount-of item (getD (b .posted) k no-amounts)))
+    × (((k : ℕ) (item : Item) → Within 10000000000000000 (amount-of item (getD (out-amounts (b .out)) k no-amounts)))
+    × ((full-run (b .out) ≡ true)
+    × Unit {0}))))))
 
 range : (number : ℕ) → outside 1 64 number ≡ false → number - 1 < 64
 range number inside = grind (arith, tells)
@@ -51,12 +57,12 @@ accepted-none : (r : Result (Unit {0}) Fault) (reasons : List Reason) → r ≡ 
 accepted-none r reasons said ok = none-fits reasons (Ok tt) (ap isOk (sym said) ∙ ok)
 
 module _ (before : Book) (asset kwh : ℕ) (r : Result (Unit {0}) Fault) (after : Book)
-    (kept : Kept before) (said : r ≡ answer (meter-reasons before asset kwh)) (state : after ≡ outcome r (metered before asset kwh) before) where
+    (said : r ≡ answer (meter-reasons before asset kwh)) (state : after ≡ outcome r (metered before asset kwh) before) where
   meter-none : isOk r ≡ true → NoneFits (meter-reasons before asset kwh)
   meter-none ok = accepted-none r (meter-reasons before asset kwh) said ok
 
-  pub meter-kept : Kept after
-  meter-kept = after-if r _ _ _ state Kept new kept
+  pub meter-kept : Kept before → Kept after
+  meter-kept kept = after-if r _ _ _ state Kept new kept
     where
       small : isOk r ≡ true → kwh ≤ 1000000
       small ok = ltb-false 1000000 kwh (meter-none ok .1 .1 .1 .0)
@@ -68,17 +74,17 @@ module _ (before : Book) (asset kwh : ℕ) (r : Result (Unit {0}) Fault) (after 
           kept .1 .0,
           (
             λ k. getD-set-has (λ (e : Record). valueOr (e .reading) 0 ≤ 1000000) (before .market .records) (asset - 1) k _ no-record (small ok) (kept .1 .1 .0 k),
-            (kept .1 .1 .1 .0, tt),
+            kept .1 .1 .1,
           ),
         ),
       )
 
-  pub meter-words : Metering before asset kwh r after
-  meter-words = record {
+  pub meter-words : FullBook before → Metering before asset kwh r after
+  meter-words full = record {
     answer = said;
     topmost = (omega arith, (omega arith, (omega arith, tt)));
     state = state;
-    reading = λ ok. ap (λ b. record-at (b .market) (asset - 1) .reading) (accepted r _ _ _ state ok) ∙ ap (λ (e : Record). e .reading) (getD-set-same (before .market .records) (asset - 1) _ no-record (subst (λ n. asset - 1 < n) (sym (kept .0 .2)) (range asset (meter-none ok .1 .0))));
+    reading = λ ok. ap (λ b. record-at (b .market) (asset - 1) .reading) (accepted r _ _ _ state ok) ∙ ap (λ (e : Record). e .reading) (getD-set-same (before .market .records) (asset - 1) _ no-record (subst (λ n. asset - 1 < n) (sym (full .2)) (range asset (meter-none ok .1 .0))));
     others = after-has r _ _ _ state (λ b. OnlyReading before b (asset - 1)) changed same;
   }
     where
@@ -117,17 +123,17 @@ step-kept b place i kept good = (
     kept .1 .0,
     (
       kept .1 .1 .0,
-      (λ k. getD-set-has (λ x. joins (b .market .schedule .assets) x ≡ true) (b .instructions) place k i Free good (kept .1 .1 .1 .0 k), tt),
+      (λ k. getD-set-has (λ x. joins (b .market .schedule .assets) x ≡ true) (b .instructions) place k i Free good (kept .1 .1 .1 .0 k), kept .1 .1 .1 .1),
     ),
   ),
 )
 
 -- the instruction that is written is the one then found
-step-at : (b : Book) (number : ℕ) (i : Instruction) → Kept b → outside 1 64 number ≡ false → instruction-at (with-instruction b (number - 1) i) (number - 1) ≡ i
-step-at b number i kept inside = getD-set-same (b .instructions) (number - 1) i Free (subst (λ n. number - 1 < n) (sym (kept .0 .3)) (range number inside))
+step-at : (b : Book) (number : ℕ) (i : Instruction) → FullBook b → outside 1 64 number ≡ false → instruction-at (with-instruction b (number - 1) i) (number - 1) ≡ i
+step-at b number i full inside = getD-set-same (b .instructions) (number - 1) i Free (subst (λ n. number - 1 < n) (sym (full .3)) (range number inside))
 
 module _ (before : Book) (number source sink kwh : ℕ) (r : Result (Unit {0}) Fault) (after : Book)
-    (kept : Kept before) (said : r ≡ answer (propose-reasons before number source sink kwh)) (state : after ≡ outcome r (proposed before number source sink kwh) before) where
+    (said : r ≡ answer (propose-reasons before number source sink kwh)) (state : after ≡ outcome r (proposed before number source sink kwh) before) where
   propose-none : isOk r ≡ true → NoneFits (propose-reasons before number source sink kwh)
   propose-none ok = accepted-none r (propose-reasons before number source sink kwh) said ok
 
@@ -142,58 +148,52 @@ module _ (before : Book) (number source sink kwh : ℕ) (r : Result (Unit {0}) F
   taken : isOk r ≡ true → (instruction-at before (number - 1) ≡ Free) × (valueOr (next-stage (instruction-at before (number - 1)) (Propose t)) Free ≡ Proposed t)
   taken ok = free-if (instruction-at before (number - 1)) (propose-none ok .1 .1 .1 .1 .1 .1 .1 .1 .0)
 
-  pub propose-kept : Kept after
-  propose-kept = after-if r _ _ _ state Kept new kept
+  pub propose-kept : Kept before → Kept after
+  propose-kept kept = after-if r _ _ _ state Kept new kept
     where
-      small : outside 1 1000000 kwh ≡ false → leb kwh 1000000 ≡ true
-      small inside = grind (arith, tells)
-
       good : isOk r ≡ true → joined-by (before .market .schedule .assets) t ≡ true
-      good ok =
-          let assets = before .market .schedule .assets in
-          and-from (is-source (getD assets (source - 1) None) && is-sink (getD assets (sink - 1) None)) (leb kwh 1000000)
-          (not-false _ (propose-none ok .1 .1 .1 .1 .1 .1 .1 .0)) (small (propose-none ok .1 .1 .1 .1 .1 .1 .0))
+      good ok = proposed-joins before number source sink kwh (propose-none ok)
 
       new : isOk r ≡ true → Kept (proposed before number source sink kwh)
       new ok = step-kept before (number - 1) _ kept (ap (joins (before .market .schedule .assets)) (taken ok .1) ∙ good ok)
 
-  pub propose-words : Proposal before number source sink kwh r after
-  propose-words = record {
+  pub propose-words : FullBook before → Proposal before number source sink kwh r after
+  propose-words full = record {
     answer = said;
     topmost = (omega arith, (omega arith, (omega arith, (omega arith, (omega arith, (omega arith, (omega arith, (omega arith, tt))))))));
     state = state;
     was-free = λ ok. taken ok .0;
-    is-proposed = λ ok. ap (λ b. instruction-at b (number - 1)) (accepted r _ _ _ state ok) ∙ step-at before number _ kept (propose-none ok .1 .0) ∙ taken ok .1;
+    is-proposed = λ ok. ap (λ b. instruction-at b (number - 1)) (accepted r _ _ _ state ok) ∙ step-at before number _ full (propose-none ok .1 .0) ∙ taken ok .1;
     others = after-has r _ _ _ state (λ b. OnlyInstruction before b (number - 1)) (only-instruction before (number - 1) _) (only-same before (number - 1));
   }
 
 -- matched instructions join what the hour keeps joined
-kept-joined : (b : Book) → Kept b → (k : ℕ) (t : Terms) → instruction-at b k ≡ Matched t → Joined b t
-kept-joined b kept k t e =
-    let all = and-parts _ _ (ap (joins (b .market .schedule .assets)) (sym e) ∙ kept .1 .1 .1 .0 k) in
-    let kinds = and-parts _ _ (all .0) in
-    record { source = kinds .0; sink = kinds .1 }
+pub all-joined : (b : Book) → ((k : ℕ) → joins (b .market .schedule .assets) (instruction-at b k) ≡ true) → (k : ℕ) (t : Terms) → instruction-at b k ≡ Matched t → Joined b t
+all-joined b joined k t e =
+    let parts = joined-parts (b .market .schedule .assets) t (ap (joins (b .market .schedule .assets)) (sym e) ∙ joined k) in
+    record { source = parts .source; sink = parts .sink }
 
 module _ (before : Book) (number participant : ℕ) (r : Result (Unit {0}) Fault) (after : Book)
-    (kept : Kept before) (said : r ≡ answer (confirm-reasons before number participant)) (state : after ≡ outcome r (confirmed before number) before) where
+    (said : r ≡ answer (confirm-reasons before number participant)) (state : after ≡ outcome r (confirmed before number) before) where
   confirm-none : isOk r ≡ true → NoneFits (confirm-reasons before number participant)
   confirm-none ok = accepted-none r (confirm-reasons before number participant) said ok
 
-  still-joined : (assets : List (Option Asset)) (i : Instruction) → joins assets i ≡ true → joins assets (valueOr (next-stage i Confirm) Free) ≡ true
-  still-joined assets Free e = refl
-  still-joined assets (Proposed t) e = e
-  still-joined assets (Matched t) e = refl
-
-  pub confirm-kept : Kept after
-  confirm-kept = after-has r _ _ _ state Kept (step-kept before (number - 1) _ kept (still-joined (before .market .schedule .assets) (instruction-at before (number - 1)) (kept .1 .1 .1 .0 (number - 1)))) kept
+  pub confirm-kept : Kept before → Kept after
+  confirm-kept kept = after-has r _ _ _ state Kept (step-kept before (number - 1) _ kept (still-joined (before .market .schedule .assets) (instruction-at before (number - 1)) (kept .1 .1 .1 .0 (number - 1)))) kept
 
   proposed-if : (i : Instruction) → not (isSome (next-stage i Confirm)) ≡ false → (i ≡ Proposed (terms-of i)) × (valueOr (next-stage i Confirm) Free ≡ Matched (terms-of i))
   proposed-if Free e = absurd (both-ways _ e refl)
   proposed-if (Proposed t) e = (refl, refl)
   proposed-if (Matched t) e = absurd (both-ways _ e refl)
 
-  pub confirm-words : Confirmation before number participant r after
-  confirm-words = record {
+  -- what joined before joins after a confirmation
+  confirm-joined : ((k : ℕ) → joins (before .market .schedule .assets) (instruction-at before k) ≡ true) → (k : ℕ) → joins (after .market .schedule .assets) (instruction-at after k) ≡ true
+  confirm-joined old =
+      after-has r (confirmed before number) before after state (λ b. (k : ℕ) → joins (b .market .schedule .assets) (instruction-at b k) ≡ true)
+      (λ k. getD-set-has (λ x. joins (before .market .schedule .assets) x ≡ true) (before .instructions) (number - 1) k _ Free (still-joined (before .market .schedule .assets) (instruction-at before (number - 1)) (old (number - 1))) (old k)) old
+
+  pub confirm-words : FullBook before → ((k : ℕ) → joins (before .market .schedule .assets) (instruction-at before k) ≡ true) → Confirmation before number participant r after
+  confirm-words full old = record {
     answer = said;
     topmost = (omega arith, (omega arith, (omega arith, (omega arith, tt))));
     state = state;
@@ -202,40 +202,35 @@ module _ (before : Book) (number participant : ℕ) (r : Result (Unit {0}) Fault
         record {
           terms = terms-of (instruction-at before (number - 1));
           was-proposed = at .0;
-          is-matched = ap (λ b. instruction-at b (number - 1)) (accepted r _ _ _ state ok) ∙ step-at before number _ kept (confirm-none ok .1 .0) ∙ at .1;
+          is-matched = ap (λ b. instruction-at b (number - 1)) (accepted r _ _ _ state ok) ∙ step-at before number _ full (confirm-none ok .1 .0) ∙ at .1;
           party = eqb-true _ _ (not-false _ (confirm-none ok .1 .1 .1 .1 .0));
         };
     others = after-has r _ _ _ state (λ b. OnlyInstruction before b (number - 1)) (only-instruction before (number - 1) _) (only-same before (number - 1));
-    joined = kept-joined after confirm-kept;
+    joined = all-joined after (confirm-joined old);
   }
 
 module _ (before : Book) (number participant : ℕ) (r : Result (Unit {0}) Fault) (after : Book)
-    (kept : Kept before) (said : r ≡ answer (withdraw-reasons before number participant)) (state : after ≡ outcome r (withdrawn before number) before) where
+    (said : r ≡ answer (withdraw-reasons before number participant)) (state : after ≡ outcome r (withdrawn before number) before) where
   withdraw-none : isOk r ≡ true → NoneFits (withdraw-reasons before number participant)
   withdraw-none ok = accepted-none r (withdraw-reasons before number participant) said ok
 
-  freed : (i : Instruction) → valueOr (next-stage i Withdraw) Free ≡ Free
-  freed Free = refl
-  freed (Proposed t) = refl
-  freed (Matched t) = refl
-
-  pub withdraw-kept : Kept after
-  withdraw-kept = after-has r _ _ _ state Kept (step-kept before (number - 1) _ kept (ap (joins (before .market .schedule .assets)) (freed (instruction-at before (number - 1))))) kept
+  pub withdraw-kept : Kept before → Kept after
+  withdraw-kept kept = after-has r _ _ _ state Kept (step-kept before (number - 1) _ kept (ap (joins (before .market .schedule .assets)) (freed (instruction-at before (number - 1))))) kept
 
   was-taken : (i : Instruction) → not (isSome (next-stage i Withdraw)) ≡ false → (i ≡ Proposed (terms-of i)) ⊎ (i ≡ Matched (terms-of i))
   was-taken Free e = absurd (both-ways _ e refl)
   was-taken (Proposed t) e = inl refl
   was-taken (Matched t) e = inr refl
 
-  pub withdraw-words : Withdrawal before number participant r after
-  withdraw-words = record {
+  pub withdraw-words : FullBook before → Withdrawal before number participant r after
+  withdraw-words full = record {
     answer = said;
     topmost = (omega arith, (omega arith, (omega arith, (omega arith, tt))));
     state = state;
     releases = λ ok. record {
       terms = terms-of (instruction-at before (number - 1));
       was-taken = was-taken (instruction-at before (number - 1)) (withdraw-none ok .1 .1 .1 .0);
-      is-free = ap (λ b. instruction-at b (number - 1)) (accepted r _ _ _ state ok) ∙ step-at before number _ kept (withdraw-none ok .1 .0) ∙ freed (instruction-at before (number - 1));
+      is-free = ap (λ b. instruction-at b (number - 1)) (accepted r _ _ _ state ok) ∙ step-at before number _ full (withdraw-none ok .1 .0) ∙ freed (instruction-at before (number - 1));
       party = elim (or-cases _ _ (not-false _ (withdraw-none ok .1 .1 .1 .1 .0))) [ inl e ↦ inl (eqb-true _ _ e) | inr e ↦ inr (eqb-true _ _ e) ];
     };
     others = after-has r _ _ _ state (λ b. OnlyInstruction before b (number - 1)) (only-instruction before (number - 1) _) (only-same before (number - 1));

@@ -3,9 +3,9 @@ use mathlib.Core.Path.{_≡_, refl, sym, ap, subst, _∙_}
 use mathlib.Core.Bool.{Bool, true, false, cond, not}
 use mathlib.Core.List.{List}
 use mathlib.Core.Logic.{inl, inr}
-use Prim.Native.Nat.{ℕ, _-_, _<_, _≤_}
+use Prim.Native.Nat.{ℕ, zero, suc, _-_, _<_, _≤_}
 use native.Mathlib.Omega.{arith}
-use lib.ListN.{length, getD, set}
+use lib.ListN.{length, getD, set, replicate}
 use Rattle.std.proofs.shelf.Lists.{length-set, getD-set-same, getD-set-other, getD-past}
 use Rattle.std.proofs.shelf.Tests.{cases-lt, not-false, cond-true, cond-false, lt-ltb, le-ltb, both-ways}
 use Rattle.std.specs.Options.{isSome, valueOr}
@@ -28,7 +28,7 @@ use Rattle.hour.specs.Reason.{Reason, answer, outside}
 use Rattle.hour.specs.Kind.{kind-of}
 use Rattle.hour.specs.Minute.{level-from, mark-between}
 use Rattle.hour.specs.Blocks.{sound-blocks}
-use Rattle.hour.specs.Market.{FullTables, asset-at, record-at, no-record, newcomer, with-row, blocks-of, blocks-at, kind-in, outcome, enrol-reasons, enrolled, offer-reasons, offering, offered-blocks, order-reasons, levelled, ordered-from, ordered, shed-reasons, shed}
+use Rattle.hour.specs.Market.{FullTables, empty-market, asset-at, record-at, no-record, newcomer, with-row, blocks-of, blocks-at, kind-in, outcome, enrol-reasons, enrolled, offer-reasons, offering, offered-blocks, order-reasons, levelled, ordered-from, ordered, shed-reasons, shed}
 use Rattle.hour.specs.Trading.{OnlyRow, Enrolled, Shed, Offering, Instructed, level-of, level-at}
 use Rattle.hour.proofs.Outcomes.{after-if, after-has, accepted, untouched, NoneFits, none-fits, getD-set-has}
 use Rattle.hour.proofs.Tables.{length-table, getD-table}
@@ -226,3 +226,17 @@ module _ (before : Market) (first end : ℕ) (r : Result (Unit {0}) Fault) (afte
 pub unread-small : (reading : Option ℕ) → isSome reading ≡ false → valueOr reading 0 ≤ 1000000
 unread-small None e = omega arith
 unread-small (Some kwh) e = absurd (both-ways _ e refl)
+
+no-blocks : (n k j : ℕ) → price-at (blocks-of (getD (replicate n None) k None)) j ≤ 99999
+no-blocks zero k j = omega arith
+no-blocks (suc n) zero j = omega arith
+no-blocks (suc n) (suc k) j = no-blocks n k j
+
+no-readings : (n k : ℕ) → isSome (getD (replicate n no-record) k no-record .reading) ≡ false
+no-readings zero k = refl
+no-readings (suc n) zero = refl
+no-readings (suc n) (suc k) = no-readings n k
+
+-- a new hour keeps it
+pub empty-kept : (label : ℕ) → TradeKept (empty-market label)
+empty-kept label = ((refl, refl, refl), (no-blocks 64, (no-readings 64, tt)))

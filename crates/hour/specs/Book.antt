@@ -58,7 +58,7 @@ is-sink (Some asset) = sink (asset .kind)
 
 -- terms join an enrolled source and an enrolled sink by at most 1,000,000 kWh
 abbrev pub joined-by : List (Option Asset) → Terms → Bool
-joined-by assets t = is-source (getD assets (t .source - 1) None) && is-sink (getD assets (t .sink - 1) None) && leb (t .kwh) 1000000
+joined-by assets t = is-source (getD assets (t .source - 1) None) && is-sink (getD assets (t .sink - 1) None) && leb 1 (t .source) && leb 1 (t .sink) && leb (t .kwh) 1000000
 
 -- the same of an instruction that is not free
 abbrev pub joins : List (Option Asset) → Instruction → Bool

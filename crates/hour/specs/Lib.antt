@@ -10,3 +10,10 @@ pub mod Trading
 pub mod Book
 pub mod Priced
 pub mod Question
+pub mod Range
+pub mod Figure
+pub mod Listing
+pub mod Charge
+pub mod Line
+pub mod Amounts
+pub mod Run

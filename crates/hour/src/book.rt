@@ -18,6 +18,8 @@ use crate::number::check_participant;
 use crate::number::place_of;
 use crate::run::Run;
 
+mod runs;
+
 // Largest reading and largest energy of an instruction, in kWh.
 const MOST_ENERGY: u32 = 1000000;
 

@@ -1,5 +1,7 @@
 ghost use mathlib.Core.Path.{_≡_};
+ghost use Prim.Native.Nat.{_≤_};
 ghost use Rattle.hour.specs.Instruction.{next-stage, terms-of};
+ghost use Rattle.hour.specs.Figure.{matched-by};
 
 // What an instruction moves: kWh from an asset that is a source to one that is a sink, by their numbers.
 #[derive(Clone, Copy)]
@@ -50,6 +52,18 @@ impl Instruction {
                 kwh: 0,
             },
             Instruction::Proposed(terms) | Instruction::Matched(terms) => terms,
+        }
+    }
+
+    // kWh that this instruction moves from or to an asset; only a matched one counts.
+    pub fn matched_kwh(self, asset: u32) -> u32
+        ensures value { λ r. ⌜ r ≡ matched-by self asset ⌝ }
+        ensures bound { λ r. ⌜ r ≤ terms-of self .kwh ⌝ }
+    {
+        match self {
+            Instruction::Matched(terms) if terms.source == asset || terms.sink == asset =>
+                terms.kwh,
+            _ => 0,
         }
     }
 }

@@ -9,6 +9,7 @@ use crate::market::Market;
 mod calls;
 
 // An hour that is open for trading.
+#[derive(Drop)]
 pub struct TradingHour {
     market: Market,
     ghost tables: { FullTables market },

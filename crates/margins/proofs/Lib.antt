@@ -1,4 +1,3 @@
 pub mod Lists
 pub mod Ordering
 pub mod Payments
-pub mod Worked

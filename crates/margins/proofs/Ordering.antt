@@ -1,6 +1,6 @@
 -- A list whose neighbours are in order is in order throughout. Assumes nothing.
 use mathlib.Core.Path.{_≡_, refl, sym, ap, subst, _∙_}
-use mathlib.Core.Bool.{Bool, true, false, _&&_}
+use mathlib.Core.Bool.{Bool, true, false}
 use mathlib.Core.List.{List}
 use mathlib.Core.Logic.{inl, inr}
 use Prim.Native.Nat.{ℕ, zero, suc, _+_, _-_, _<_, _≤_}
@@ -8,14 +8,14 @@ use native.Mathlib.Omega.{arith}
 use native.Mathlib.Numerals.{add-one}
 use lib.ListN.{length}
 use Rattle.std.specs.Orderings.{Decides}
-use Rattle.std.proofs.shelf.Tests.{cases-eq, cases-bool, both-ways, and-parts, and-right, and-left, and-from, ltb-true, lt-ltb}
+use Rattle.std.proofs.shelf.Tests.{cases-eq, cases-bool, both-ways, and-parts, and-from, ltb-true, lt-ltb}
 use Rattle.prices.specs.declared.block.Block.{Block}
 use Rattle.prices.specs.declared.kind.Kind.{Kind}
 use Rattle.prices.specs.declared.kind.Kind.the-variants.{Generator, Import, Load, Export}
 use Rattle.prices.specs.Block.{price-at}
 use Rattle.prices.specs.Kind.{source, sink}
 use Rattle.margins.specs.Side.{StrictOrder, lower-first, higher-first}
-use Rattle.margins.specs.Order.{every, next-in-order, ordered, InOrder, ordered-for, Rising, Falling, InKindsOrder}
+use Rattle.margins.specs.Order.{every, next-in-order, ordered, InOrder, Rising, Falling, InKindsOrder}
 
 pub every-none : (p : ℕ → Bool) → every p 0 ≡ true
 unfolding every

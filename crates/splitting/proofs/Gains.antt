@@ -1,9 +1,9 @@
 -- The running rule is lawful: its gains telescope, and each lies between two roundings. Assumes nothing.
 use mathlib.Core.List.{List, map}
 use mathlib.Core.Logic.{inl, inr, ⊎-elim}
-use mathlib.Core.Path.{_≡_, refl, sym, ap, subst, _∙_}
+use mathlib.Core.Path.{_≡_, sym, ap, subst, _∙_}
 use Prim.Native.Nat.{ℕ, zero, suc, _+_, _-_, _*_, _/_, _%_, _<_, _≤_}
-use native.Mathlib.Nat.{mul-add, mul-zero, zero-div, div-zero, div-add-mod, mod-lt, mul-div-cancel, zero-mul}
+use native.Mathlib.Nat.{mul-add, mul-zero, zero-div, div-zero, div-add-mod, mod-lt, mul-div-cancel}
 use native.Mathlib.Numerals.{add-one}
 use native.Mathlib.Omega.{arith}
 use lib.ListN.{length, take, getD}
@@ -12,9 +12,9 @@ use Rattle.std.specs.shelf.Lists.{sum}
 use Rattle.std.proofs.shelf.Bits.{le-div}
 use Rattle.std.proofs.shelf.Counted.{length-map-counting, getD-map-counting, sumBy-map-counting-more}
 use Rattle.std.proofs.shelf.Lists.{take-all}
-use Rattle.std.proofs.shelf.Sums.{sumBy-more, sumBy-take-le}
+use Rattle.std.proofs.shelf.Sums.{sumBy-more}
 use Rattle.std.proofs.shelf.Tests.{cases-lt}
-use Rattle.splitting.specs.Rule.{Near, Fair, Lawful}
+use Rattle.splitting.specs.Rule.{Near, Lawful}
 use Rattle.splitting.specs.Running.{running, up-to}
 use Rattle.splitting.specs.Weights.{Accepted}
 use Rattle.splitting.proofs.Fairness.{fair-from}

@@ -1,20 +1,20 @@
 -- Whole cents and remainders: handing out the leftover cents in an order that puts remainders above 0 first is fair. Assumes nothing.
 use mathlib.Core.Bool.{Bool, true, false, cond}
 use mathlib.Core.List.{List, map}
-use mathlib.Core.Logic.{_⊎_, inl, inr}
+use mathlib.Core.Logic.{inl, inr}
 use mathlib.Core.Path.{_≡_, refl, sym, ap, subst, _∙_}
 use Prim.Native.Nat.{ℕ, zero, suc, _+_, _-_, _*_, _/_, _%_, _<_, _≤_}
 use native.Mathlib.Nat.{mul-add, mul-zero, mul-comm, div-zero, div-add-mod, mod-lt, le-of-mul-le-mul-left, mul-le-mul-left}
 use native.Mathlib.Numerals.{add-one}
 use native.Mathlib.Omega.{arith}
-use lib.Dec.{ltb, eqb}
+use lib.Dec.{ltb}
 use lib.ListN.{length, take, getD}
 use Rattle.std.specs.Iters.{counting}
 use Rattle.std.specs.shelf.Lists.{sum}
 use Rattle.std.proofs.shelf.Counted.{length-map-counting, getD-map-counting}
 use Rattle.std.proofs.shelf.Lists.{take-all}
 use Rattle.std.proofs.shelf.Sums.{sumBy-more, sumBy-take-le}
-use Rattle.std.proofs.shelf.Tests.{cases-lt, cases-bool, ltb-true, lt-ltb, le-ltb}
+use Rattle.std.proofs.shelf.Tests.{cases-lt, ltb-true, lt-ltb}
 use Rattle.std.proofs.shelf.Ways.{tells}
 use Rattle.splitting.specs.Largest.{whole-at, remainder-at, leftover, handed-out, larger, largest}
 use Rattle.splitting.specs.Places.{sum-over, how-many, rank, StrictOrder}

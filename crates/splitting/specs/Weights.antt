@@ -1,5 +1,5 @@
 -- When a total can be split over weights, and why it is refused. Assumes nothing.
-use mathlib.Core.Bool.{Bool, true, cond, _&&_, _||_}
+use mathlib.Core.Bool.{cond, _&&_, _||_}
 use mathlib.Core.List.{List}
 use mathlib.Core.Path.{_≡_}
 use Prim.Native.Nat.{ℕ, _<_, _≤_}
@@ -23,7 +23,7 @@ pub record Accepted (total : ℕ) (weights : List ℕ) : Type 0 where
   pub limits : Limited total weights
   pub weighs : 0 < total → 0 < sum weights
 
--- the first reason that fits, in the order of the table, or what stands at the end
+-- the first fault that applies, in the order of the table, or what stands at the end
 abbrev pub first-fault : {X : Type 0} → (Fault → X) → X → (places total : ℕ) → List ℕ → X
 first-fault refuse end places total weights =
     cond (ltb places (length weights)) (refuse (ListTooShort (length weights)))
@@ -31,14 +31,14 @@ first-fault refuse end places total weights =
     (cond (ltb 32 (length weights) || (ltb 64000000 (sum weights) || ltb 10000000000 total)) (refuse LimitPassed)
     end))
 
--- a fault fits a call
-abbrev pub Fits : Fault → (places total : ℕ) → List ℕ → Type 0
-Fits (ListTooShort needed) places total weights = (places < length weights) × (needed ≡ length weights)
-Fits NothingWeighs places total weights = (0 < total) × (sum weights ≡ 0)
-Fits LimitPassed places total weights = Limited total weights → ⊥
+-- a fault applies to a call
+abbrev pub Applies : Fault → (places total : ℕ) → List ℕ → Type 0
+Applies (ListTooShort needed) places total weights = (places < length weights) × (needed ≡ length weights)
+Applies NothingWeighs places total weights = (0 < total) × (sum weights ≡ 0)
+Applies LimitPassed places total weights = Limited total weights → ⊥
 
--- no fault fits, or the one that fits and has the topmost row
+-- no fault applies, or this one does and has the topmost row of all that do
 abbrev pub Topmost : {X : Type 0} → (places total : ℕ) → List ℕ → Result X Fault → Type 0
-Topmost places total weights (Ok _) = (other : Fault) → Fits other places total weights → ⊥
+Topmost places total weights (Ok _) = (other : Fault) → Applies other places total weights → ⊥
 Topmost places total weights (Err fault) =
-    Fits fault places total weights × ((other : Fault) → Fits other places total weights → refusal fault .row ≤ refusal other .row)
+    Applies fault places total weights × ((other : Fault) → Applies other places total weights → refusal fault .row ≤ refusal other .row)

@@ -1,6 +1,7 @@
-ghost use Rattle.splitting.specs.Figures.{Figures};
+ghost use Rattle.splitting.specs.Figures.{Excluded, Figures};
 
-// Carries the worked figures of the two rules in its contract.
+// Carries the worked figures of the two rules, and what the law excludes, in its contract.
 pub fn worked_figures()
-    ensures { λ _. ⌜ Figures ⌝ }
+    ensures figures { λ _. ⌜ Figures ⌝ }
+    ensures excluded { λ _. ⌜ Excluded ⌝ }
 {}

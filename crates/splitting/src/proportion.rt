@@ -1,9 +1,9 @@
 ghost use mathlib.Core.Path.{_≡_};
-ghost use Prim.Native.Nat.{ℕ, _≤_};
+ghost use Prim.Native.Nat.{_≤_};
 ghost use Rattle.splitting.specs.Proportion.{whole-cents, remainder};
 
 // The whole cents of total × part / all.
-pub fn whole_cents(total: u64, part: u64, all: u64) -> u64
+pub(crate) fn whole_cents(total: u64, part: u64, all: u64) -> u64
     requires { ⌜ total ≤ 10000000000 ⌝ ∗ ⌜ part ≤ 64000000 ⌝ }
     ensures { λ r. ⌜ r ≡ whole-cents total part all ⌝ }
 {
@@ -11,7 +11,7 @@ pub fn whole_cents(total: u64, part: u64, all: u64) -> u64
 }
 
 // What the whole cents leave of total × part.
-pub fn remainder_of(total: u64, part: u64, all: u64) -> u64
+pub(crate) fn remainder_of(total: u64, part: u64, all: u64) -> u64
     requires { ⌜ total ≤ 10000000000 ⌝ ∗ ⌜ part ≤ 64000000 ⌝ }
     ensures { λ r. ⌜ r ≡ remainder total part all ⌝ }
 {

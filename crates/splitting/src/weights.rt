@@ -1,5 +1,5 @@
 ghost use mathlib.Core.Path.{_≡_};
-ghost use Prim.Native.Nat.{ℕ, min};
+ghost use Prim.Native.Nat.{min, _+_, _≤_};
 ghost use Rattle.std.specs.shelf.Lists.{sum};
 ghost use Rattle.std.specs.declared.result.Result.the-variants.{Ok, Err};
 ghost use Rattle.splitting.specs.Weights.{first-fault, Topmost};
@@ -17,9 +17,17 @@ pub fn weigh(weights: &[u32]) -> u64
 {
     let mut sum: u64 = 0;
     for weight in weights {
-        sum = (sum + u64::from(*weight)).min(MOST_KWH + 1);
+        sum = capped_sum(sum, *weight);
     }
     sum
+}
+
+// The sum with one more weight, counted no further than one past the limit.
+fn capped_sum(front: u64, weight: u32) -> u64
+    requires { ⌜ front ≤ 64000001 ⌝ }
+    ensures { λ r. ⌜ r ≡ min (front + weight) 64000001 ⌝ }
+{
+    (front + u64::from(weight)).min(MOST_KWH + 1)
 }
 
 // The sum of the weights over which the total may be split into a list with so many places.

@@ -4,11 +4,10 @@ use Rattle.hour.proofs.priced.PricedHour.confirm.Needs as need
 pub ghost-self : need.ghost-self
 ghost-self c =
     let h = c .args .self .now in
-    let kept : Kept (h .book) = (h .tables, (h .offers, (h .readings, (h .joined, tt)))) in
-    confirm-kept (h .book) (c .args .number) (c .args .participant) (c .confirm .result) _ kept (c .confirm .ensures .answer) (c .confirm .ensures .state)
+    let kept : Kept (h .book) = (h .tables, (h .offers, (h .readings, (h .joined, (h .posted, (h .drawn, (h .whole, tt))))))) in
+    confirm-kept (h .book) (c .args .number) (c .args .participant) (c .confirm .result) _ (c .confirm .ensures .answer) (c .confirm .ensures .state) kept
 
 pub returns : need.returns
 returns c =
     let h = c .args .self .now in
-    let kept : Kept (h .book) = (h .tables, (h .offers, (h .readings, (h .joined, tt)))) in
-    confirm-words (h .book) (c .args .number) (c .args .participant) (c .confirm .result) _ kept (c .confirm .ensures .answer) (c .confirm .ensures .state)
+    confirm-words (h .book) (c .args .number) (c .args .participant) (c .confirm .result) _ (c .confirm .ensures .answer) (c .confirm .ensures .state) (h .tables) (h .joined)

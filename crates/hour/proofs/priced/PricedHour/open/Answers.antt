@@ -9,6 +9,7 @@ use Rattle.hour.specs.declared.instruction.Instruction.the-variants.{Free}
 use Rattle.hour.specs.Book.{new-book, joins}
 use Rattle.hour.proofs.TradeSteps.{unread-small}
 use Rattle.hour.proofs.PricedSteps.{Kept}
+use Rattle.hour.proofs.Runs.{nothing-within, none-within}
 use Rattle.hour.proofs.priced.PricedHour.open.Needs as need
 
 all-free : (assets : List (Option Asset)) (n k : ℕ) → joins assets (getD (replicate n Free) k Free) ≡ true
@@ -21,6 +22,6 @@ ghost-result c =
     let m = c .args .market in
     let kept : Kept (new-book m) = (
       (c .pre .tables .0, c .pre .tables .1, c .pre .tables .2, refl, refl),
-      (c .pre .offers, (λ k. unread-small _ (c .pre .unread k), (λ k. all-free (m .schedule .assets) 64 k, tt))),
+      (c .pre .offers, (λ k. unread-small _ (c .pre .unread k), (λ k. all-free (m .schedule .assets) 64 k, (none-within 32, (λ k item. nothing-within item, (refl, tt)))))),
     ) in
     subst Kept (sym (c .new .ensures)) kept

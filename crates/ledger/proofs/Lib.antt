@@ -1,0 +1,9 @@
+pub mod Agreement
+pub mod LineSums
+pub mod Soundness
+pub mod Chain
+pub mod SumLaws
+pub mod Near
+pub mod Nets
+pub mod PostedLines
+pub mod Existence

@@ -1,0 +1,6 @@
+pub mod Sums
+pub mod Imbalance
+pub mod Trade
+pub mod Call
+pub mod Ledger
+pub mod Law

@@ -81,8 +81,8 @@ impl Book {
     {
         let out = self.out;
         match out {
-            Some(run) if slip.is_of(self.market.label, run.number) => {
-                slip.spend(self.market.label, run.number);
+            Some(dropped) if slip.is_of(self.market.label, dropped.number) => {
+                slip.spend(self.market.label, dropped.number);
                 self.out = None;
                 Ok(())
             }

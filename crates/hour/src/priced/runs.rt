@@ -1,11 +1,12 @@
 ghost use mathlib.Core.Path.{_≡_};
 ghost use lib.ListN.{length};
 ghost use Rattle.hour.specs.Listing.{listing};
-ghost use Rattle.hour.specs.Line.{Item, amount-of, Within, amounts-at};
+ghost use Rattle.hour.specs.Line.{Item, amount-of, Within, posted-at};
 ghost use Rattle.hour.specs.Run.{Drawing, Posting, Voiding};
 use crate::fault::Fault;
 use crate::line::Amounts;
 use crate::line::Line;
+use crate::line::NO_AMOUNTS;
 use crate::lines::amounts_at;
 use crate::listing::list_participants;
 use crate::priced::PricedHour;
@@ -44,9 +45,12 @@ impl PricedHour {
 
     // What is posted for a participant; nothing for a number that is none.
     pub fn posted(&self, participant: u32) -> Amounts
-        ensures value { λ r. ⌜ r ≡ amounts-at (now (self .entry) .book .posted) participant ⌝ }
+        ensures value { λ r. ⌜ r ≡ posted-at (now (self .entry) .book .posted) participant ⌝ }
         ensures within { λ r. ⌜ ((item : Item) → Within 10000000000000000 (amount-of item r)) ⌝ }
     {
-        amounts_at(&self.book.posted, participant)
+        match participant {
+            1..=32 => amounts_at(&self.book.posted, participant),
+            _ => NO_AMOUNTS,
+        }
     }
 }

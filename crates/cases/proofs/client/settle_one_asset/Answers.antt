@@ -23,10 +23,10 @@ returns g c =
     let law = g .R·Apportion·met .lawful (c .args .rule .now) in
     let traded : List LivedTrade = (enrol 1 71 1, c .enrol .result) ∷ [] in
     let lived : List Lived =
-          (post (c .in-Continue-slip .slip), c .post .result)
-          ∷ (draw shares law (c .args .lines .now), (c .draw .result, c .draw .last .lines))
-          ∷ (meter 1 (c .args .kwh), c .meter .result)
-          ∷ [] in
+    (post (c .in-Continue-slip .slip), c .post .result)
+    ∷ (draw shares law (c .args .lines .now), (c .draw .result, c .draw .last .lines))
+    ∷ (meter 1 (c .args .kwh), c .meter .result)
+    ∷ [] in
     let came : CameBy (c .args .label) traded lived (c .post .last .self .book) = record {
       market = c .enrol .last .self .market;
       trading = (c .new-trading .result .market, c .new-trading .ensures, c .enrol .ensures);

@@ -1,0 +1,7 @@
+mod calls;
+mod questions;
+mod refusals;
+mod runs;
+mod scene;
+mod settle;
+mod slips;

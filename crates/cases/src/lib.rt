@@ -1,4 +1,6 @@
-// Clients of an hour, worked cases as a theorem, and cases run over the public calls.
+//! Clients of an hour, worked cases as a theorem, and cases run over the public calls.
+#![tactic(auto)]
+
 mod client;
 mod late;
 #[cfg(test)]

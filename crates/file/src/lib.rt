@@ -1,4 +1,6 @@
-// The hour file, read strictly, and the print of a statement or a fault.
+//! The hour file, read strictly, and the print of a statement or a fault.
+#![tactic(auto)]
+
 mod body;
 mod field;
 mod figure;

@@ -1,4 +1,6 @@
-// One hour of the pool: trading calls, close, questions, readings, instructions and runs.
+//! One hour of the pool: trading calls, close, questions, readings, instructions and runs.
+#![tactic(auto)]
+
 mod amount;
 mod blocks;
 mod book;

@@ -1,4 +1,6 @@
-// Reads the trading lines of an hour from standard input and prints the hour's pool price and who set it.
+//! Reads the trading lines of an hour from standard input and prints the hour's pool price and who set it.
+#![tactic(auto)]
+
 mod error;
 mod field;
 mod hour;

@@ -1,4 +1,6 @@
-// The hour file settled: a statement or a fault, printed into the caller's text.
+//! The hour file settled: a statement or a fault, printed into the caller's text.
+#![tactic(auto)]
+
 mod call;
 mod cursor;
 mod entry;

@@ -1,4 +1,6 @@
-// Settles the hour file on standard input: prints its statement, or its fault and a sentence on what is wrong.
+//! Settles the hour file on standard input: prints its statement, or its fault and a sentence on what is wrong.
+#![tactic(auto)]
+
 mod error;
 mod reason;
 mod sentence;

@@ -1,4 +1,6 @@
-// What is posted, and the law that every list of calls keeps.
+//! What is posted, and the law that every list of calls keeps.
+#![tactic(auto)]
+
 mod history;
 mod question;
 

@@ -1,4 +1,6 @@
-// Margin payments of one hour: what suppliers above the pool price and loads below it are paid.
+//! Margin payments of one hour: what suppliers above the pool price and loads below it are paid.
+#![tactic(auto)]
+
 mod energy;
 mod payment;
 mod side;

@@ -1,4 +1,6 @@
-// Prices of one hour: what each asset offered and was told to run at, and the prices that follow.
+//! Prices of one hour: what each asset offered and was told to run at, and the prices that follow.
+#![tactic(auto)]
+
 mod asset;
 mod average;
 mod block;

@@ -1,4 +1,6 @@
-// Splitting a charge in whole cents over weights in kWh.
+//! Splitting a charge in whole cents over weights in kWh.
+#![tactic(auto)]
+
 mod either;
 mod fault;
 mod figures;

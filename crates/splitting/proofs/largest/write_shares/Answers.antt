@@ -8,9 +8,9 @@ pub loop-place-preserved : goal.loop-place-preserved
 unfolding handed_out
 loop-place-preserved c =
     let ws = c.args.weights.now in
-    let here : c.share-at.result ≡ handed (larger c.args.total ws) c.args.total ws c.loop-place.place =
-    c.share-at.ensures ∙ rw c.cents-left-left.ensures refl in
-    ap (λ s. set s c.loop-place.place c.share-at.result) c.loop-place.invariant
+    let here : c.share_at.result ≡ handed (larger c.args.total ws) c.args.total ws c.loop-place.place =
+    c.share_at.ensures ∙ rw c.cents_left-left.ensures refl in
+    ap (λ s. set s c.loop-place.place c.share_at.result) c.loop-place.invariant
     ∙ rw here (write_more (handed (larger c.args.total ws) c.args.total ws) (length ws) c.args.shares.now c.loop-place.place c.loop-place-test.true c.requires.room)
 
 pub returns : goal.returns

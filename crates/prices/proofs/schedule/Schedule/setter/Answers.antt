@@ -15,12 +15,12 @@ returns-in-Some c =
     let unmarked : marked_in c.args.self.now c.args.minute ≡ false = search rules in
     let value : Some (c.in-Some.place + 1) ≡ setter_of c.args.self.now c.args.minute =
     ap Some (sym (suc-eq-add-one c.in-Some.place))
-    ∙ setter_found c.args.self.now c.args.minute c.system-price.result (Some c.in-Some.place) unmarked c.system-price.ensures.value c.in-Some.ensures.value in
+    ∙ setter_found c.args.self.now c.args.minute c.system_price.result (Some c.in-Some.place) unmarked c.system_price.ensures.value c.in-Some.ensures.value in
     record { value = value; words = setter_words _ _ _ value }
 
 pub returns-in-None : goal.returns-in-None
 returns-in-None c =
     let unmarked : marked_in c.args.self.now c.args.minute ≡ false = search rules in
     let value : None ≡ setter_of c.args.self.now c.args.minute =
-    setter_found c.args.self.now c.args.minute c.system-price.result None unmarked c.system-price.ensures.value c.in-None.ensures.value in
+    setter_found c.args.self.now c.args.minute c.system_price.result None unmarked c.system_price.ensures.value c.in-None.ensures.value in
     record { value = value; words = setter_words _ _ _ value }

@@ -12,5 +12,5 @@ returns-then-is-marked c =
 pub returns : goal.returns
 unfolding system_price
 returns c =
-    let value : c.unwrap-or.result ≡ system_price c.args.self.now c.args.minute = search rules in
+    let value : c.unwrap_or.result ≡ system_price c.args.self.now c.args.minute = search rules in
     record { value = value; words = system_words _ _ _ value }

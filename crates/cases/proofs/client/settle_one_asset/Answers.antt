@@ -9,8 +9,8 @@ use Rattle.cases.proofs.client.settle_one_asset.Goals as goal
 
 pub unreachable-requires : goal.unreachable-requires
 unreachable-requires g c =
-    let fits = fresh_fits _ _ _ _ _ _ c.in-ok-slip.ensures in
-    not_returned c.draw.new.self.book c.in-ok-slip.slip _ fits c.in-Err.ensures.answer
+    let fits = fresh_fits _ _ _ _ _ _ c.in_ok-slip.ensures in
+    not_returned c.draw.new.self.book c.in_ok-slip.slip _ fits c.in-Err.ensures.answer
 
 pub returns : goal.returns
 returns g c =
@@ -18,7 +18,7 @@ returns g c =
     let law = g.met.R.Apportion.lawful c.args.rule.now in
     let traded : List LivedTrade = (enrol 1 71 1, c.enrol.result) ∷ [] in
     let lived : List Lived =
-    (post c.in-ok-slip.slip, c.post.result)
+    (post c.in_ok-slip.slip, c.post.result)
     ∷ (draw shares law c.args.lines.now, (c.draw.result, c.draw.new.lines))
     ∷ (meter 1 c.args.kwh, c.meter.result)
     ∷ [] in
@@ -27,7 +27,7 @@ returns g c =
       trading = (c.new-trading.result.market, c.new-trading.ensures, c.enrol.ensures);
       since = (c.draw.new.self.book, (c.meter.new.self.book, (c.close-hour.result.book, c.close-hour.ensures.state, c.meter.ensures), c.draw.ensures), c.post.ensures);
     } in
-    let fits : SFits w64 c.posted-nets.result = record { sfits = c.posted-nets.type-inv } in
+    let fits : SFits w64 c.posted_nets.result = record { sfits = c.posted_nets.type_inv } in
     let before = c.meter.new.self.book in
     let read : List Lived = (meter 1 c.args.kwh, c.meter.result) ∷ [] in
     let ready : CameBy c.args.label traded read before = record {
@@ -35,7 +35,7 @@ returns g c =
       trading = (c.new-trading.result.market, c.new-trading.ensures, c.enrol.ensures);
       since = (c.close-hour.result.book, c.close-hour.ensures.state, c.meter.ensures);
     } in
-    let last = posted_last c.args.label traded read before ready shares law c.args.lines.now c.in-ok-slip.slip _ _ c.in-ok-slip.ensures c.draw.result c.post.result in
+    let last = posted_last c.args.label traded read before ready shares law c.args.lines.now c.in_ok-slip.slip _ _ c.in_ok-slip.ensures c.draw.result c.post.result in
     record {
       traded = traded;
       lived = lived;
@@ -44,5 +44,5 @@ returns g c =
       last = draw_from (ledger_by c.args.label traded read) shares law;
       earlier = (ledger_by c.args.label traded read).posted;
       posted_last = last;
-      due = to_z-of_z fits ∙ (c.posted-nets.ensures.law c.args.label traded lived came).posted_nets_equal_price_times_imbalance ∙ ap nets_due last;
+      due = to_z-of_z fits ∙ (c.posted_nets.ensures.law c.args.label traded lived came).posted_nets_equal_price_times_imbalance ∙ ap nets_due last;
     }

@@ -9,31 +9,31 @@ use Rattle.cases.proofs.late.settle_late_reading.Goals as goal
 
 pub unreachable-requires : goal.unreachable-requires
 unreachable-requires g c =
-    let fits = fresh_fits _ _ _ _ _ _ c.in-ok-first.ensures in
-    not_returned c.draw.new.self.book c.in-ok-first.first _ fits c.in-Err.ensures.answer
+    let fits = fresh_fits _ _ _ _ _ _ c.in_ok-first.ensures in
+    not_returned c.draw.new.self.book c.in_ok-first.first _ fits c.in-Err.ensures.answer
 
 pub unreachable-requires-in-Err-void : goal.unreachable-requires-in-Err-void
 unreachable-requires-in-Err-void g c =
-    let fits = fresh_fits _ _ _ _ _ _ c.in-ok-second.ensures in
-    not_returned c.draw-2.new.self.book c.in-ok-second.second _ fits c.in-Err-void.ensures.answer
+    let fits = fresh_fits _ _ _ _ _ _ c.in_ok-second.ensures in
+    not_returned c.draw-2.new.self.book c.in_ok-second.second _ fits c.in-Err-void.ensures.answer
 
 pub unreachable-requires-in-Err-post : goal.unreachable-requires-in-Err-post
 unreachable-requires-in-Err-post g c =
-    let fits = fresh_fits _ _ _ _ _ _ c.in-ok-third.ensures in
-    not_returned c.draw-3.new.self.book c.in-ok-third.third _ fits c.in-Err-post.ensures.answer
+    let fits = fresh_fits _ _ _ _ _ _ c.in_ok-third.ensures in
+    not_returned c.draw-3.new.self.book c.in_ok-third.third _ fits c.in-Err-post.ensures.answer
 
 pub returns : goal.returns
 unfolding worked_market worked_book
 returns g c =
     let shares = g.R.Apportion.meaning c.args.rule.now in
     let law = g.met.R.Apportion.lawful c.args.rule.now in
-    let start = c.in-ok-hour.ensures in
+    let start = c.in_ok-hour.ensures in
     let traded = start.traded in
     let read : List Lived =
-    (void c.in-ok-second.second, c.void.result)
+    (void c.in_ok-second.second, c.void.result)
     ∷ (draw shares law c.draw.new.lines, (c.draw-2.result, c.draw-2.new.lines))
     ∷ (meter 4 60000, c.meter.result)
-    ∷ (post c.in-ok-first.first, c.post.result)
+    ∷ (post c.in_ok-first.first, c.post.result)
     ∷ (draw shares law c.args.lines.now, (c.draw.result, c.draw.new.lines))
     ∷ start.lived in
     let before = c.void.new.self.book in
@@ -48,7 +48,7 @@ returns g c =
             c.post.new.self.book,
             (
               c.draw.new.self.book,
-              (c.in-ok-hour.hour.book, start.came.since, c.draw.ensures),
+              (c.in_ok-hour.hour.book, start.came.since, c.draw.ensures),
               c.post.ensures,
             ),
             c.meter.ensures,
@@ -59,7 +59,7 @@ returns g c =
       );
     } in
     let lived : List Lived =
-    (post c.in-ok-third.third, c.post-2.result)
+    (post c.in_ok-third.third, c.post-2.result)
     ∷ (draw shares law c.draw-2.new.lines, (c.draw-3.result, c.draw-3.new.lines))
     ∷ read in
     let came : CameBy worked_label traded lived c.post-2.new.self.book = record {
@@ -67,18 +67,18 @@ returns g c =
       trading = start.came.trading;
       since = (c.draw-3.new.self.book, (before, ready.since, c.draw-3.ensures), c.post-2.ensures);
     } in
-    let last = posted_last worked_label traded read before ready shares law c.draw-2.new.lines c.in-ok-third.third _ _ c.in-ok-third.ensures c.draw-3.result c.post-2.result in
-    let fits : SFits w64 c.posted-nets.result = record { sfits = c.posted-nets.type-inv } in
-    let due = to_z-of_z fits ∙ (c.posted-nets.ensures.law worked_label traded lived came).posted_nets_equal_price_times_imbalance ∙ ap nets_due last in
+    let last = posted_last worked_label traded read before ready shares law c.draw-2.new.lines c.in_ok-third.third _ _ c.in_ok-third.ensures c.draw-3.result c.post-2.result in
+    let fits : SFits w64 c.posted_nets.result = record { sfits = c.posted_nets.type_inv } in
+    let due = to_z-of_z fits ∙ (c.posted_nets.ensures.law worked_label traded lived came).posted_nets_equal_price_times_imbalance ∙ ap nets_due last in
     let first_market =
     post_keeps _ _ _ c.post.new.self.book c.post.ensures
     ∙ draw_keeps _ _ _ _ c.draw.new.self.book _ c.draw.ensures
-    ∙ ap (λ b. b.market) (came_to worked_label worked_trades worked_calls c.in-ok-hour.hour.book start) in
+    ∙ ap (λ b. b.market) (came_to worked_label worked_trades worked_calls c.in_ok-hour.hour.book start) in
     let last_market =
     ap (λ b. b.market) (sym (came_agrees worked_label traded read before ready))
     ∙ void_keeps _ _ _ before c.void.ensures
     ∙ draw_keeps _ _ _ _ c.draw-2.new.self.book _ c.draw-2.ensures
-    ∙ ap (λ b. b.market) c.in-ok-meter.ensures.state
+    ∙ ap (λ b. b.market) c.in_ok-meter.ensures.state
     ∙ ap read_late first_market in
     record {
       settled = record {

@@ -7,15 +7,15 @@ use Rattle.file.proofs.field.read_field.Goals.{else-start-next-via-then-start-ne
 pub returns-then-allows : goal.returns-then-allows
 returns-then-allows c =
     record {
-      word = c.read-number-number.ensures.small;
+      word = c.read_number-number.ensures.small;
       ends = search rules;
-      stands = field_stands c.args.file.now c.args.start c.read-number-number.result.value c.read-number-number.result.next c.read-number-number.ensures c.if-start-next.true c.if-next-file.true;
+      stands = field_stands c.args.file.now c.args.start c.read_number-number.result.value c.read_number-number.result.next c.read_number-number.ensures c.if-start-next.true c.if-next-file.true;
     }
 
 pub returns : goal.returns
 returns c =
-    field_breaks c.args.end c.args.file.now c.args.start c.read-number-number.result.value c.read-number-number.result.next c.read-number-number.ensures
-    (no_end c.args.end c.args.file.now c.args.start c.read-number-number.result.next
+    field_breaks c.args.end c.args.file.now c.args.start c.read_number-number.result.value c.read_number-number.result.next c.read_number-number.ensures
+    (no_end c.args.end c.args.file.now c.args.start c.read_number-number.result.next
     (λ some inside allows. elim c.else-start-next.branch [
       | else-start-next-via-then-start-next+then-next-file+else-allows w ↦ search (rules, both_ways)
       | else-start-next-via-then-start-next+else-next-file w ↦ omega arith

@@ -3,19 +3,19 @@ use Rattle.std.proofs.lemmas.Bool.{both_ways}
 use Rattle.file.specs.Place.{Stands}
 use Rattle.file.proofs.Fields.{letter_stands, letter_breaks, comma_breaks}
 use Rattle.file.proofs.field.read_letter.Goals as goal
-use Rattle.file.proofs.field.read_letter.Goals.{then-start-file-via-then-start-file, then-start-file-via-else-start-file+then-not-is-capital, then-comma-file-via-then-comma-file, then-comma-file-via-else-comma-file+then-file-comma-ne44}
+use Rattle.file.proofs.field.read_letter.Goals.{then-start-file-via-then-start-file, then-start-file-via-else-start-file+then-not-is_capital, then-comma-file-via-then-comma-file, then-comma-file-via-else-comma-file+then-file-comma-ne44}
 
 pub returns-then-start-file : goal.returns-then-start-file
 returns-then-start-file c =
     letter_breaks c.args.file.now c.args.start c.requires (λ inside capital.
     elim c.then-start-file.branch [
       | then-start-file-via-then-start-file w ↦ omega arith
-      | then-start-file-via-else-start-file+then-not-is-capital w ↦ both_ways w.is-capital.result w.if-not-is-capital.true (w.is-capital.ensures.1 capital)
+      | then-start-file-via-else-start-file+then-not-is_capital w ↦ both_ways w.is_capital.result w.if-not-is_capital.true (w.is_capital.ensures.1 capital)
     ])
 
 pub returns-then-comma-file : goal.returns-then-comma-file
 returns-then-comma-file c =
-    comma_breaks c.args.file.now c.args.start (omega arith) (c.is-capital.ensures.0 c.if-not-is-capital.false) (λ inside comma.
+    comma_breaks c.args.file.now c.args.start (omega arith) (c.is_capital.ensures.0 c.if-not-is_capital.false) (λ inside comma.
     elim c.then-comma-file.branch [
       | then-comma-file-via-then-comma-file w ↦ omega arith
       | then-comma-file-via-else-comma-file+then-file-comma-ne44 w ↦ search rules

@@ -7,5 +7,5 @@ returns-then-value-lt10 t c = record { value = sym (digits_one c.args.value c.if
 
 pub returns-else-value-lt10 : goal.returns-else-value-lt10
 returns-else-value-lt10 t c =
-    let value : c.digit-count.result + 1 ≡ length (decimal c.args.value) = omega (arith, c.digit-count.ensures.value, digits_more c.args.value c.if-value-lt10.false (omega arith)) in
+    let value : c.digit_count.result + 1 ≡ length (decimal c.args.value) = omega (arith, c.digit_count.ensures.value, digits_more c.args.value c.if-value-lt10.false (omega arith)) in
     record { value = value; short = omega (arith, value, digits_few c.args.value (omega arith)) }

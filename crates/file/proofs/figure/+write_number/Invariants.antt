@@ -1,4 +1,4 @@
 use Rattle.file.proofs.figure.+write_number.Given as goal
 
-abbrev pub decreases-write-number : goal.decreases-write-number
-decreases-write-number l = l.value
+abbrev pub decreases-write_number : goal.decreases-write_number
+decreases-write_number l = l.value

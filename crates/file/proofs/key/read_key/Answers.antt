@@ -17,8 +17,8 @@ loop-key-preserved c = λ key lt found.
     (λ (here : i ≤ order_of key).
     let e : order_of key ≡ i = omega arith in
     let same = subst (λ (n : ℕ). get_or (Hour ∷ Asset ∷ Offer ∷ Order ∷ Shed ∷ Meter ∷ Instruct ∷ Rule ∷ []) n Hour ≡ key) e (key_at Hour key) in
-    both_ways c.key-stands.result c.if-key-stands.false
-    (c.key-stands.ensures.1 (subst (λ (k : Key). FoundKey c.args.file.now c.args.start c.args.last k) (sym same) found)))
+    both_ways c.key_stands.result c.if-key_stands.false
+    (c.key_stands.ensures.1 (subst (λ (k : Key). FoundKey c.args.file.now c.args.start c.args.last k) (sym same) found)))
     (cases_lt (order_of key) i)
 
 pub returns : goal.returns

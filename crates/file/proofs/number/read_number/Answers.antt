@@ -2,8 +2,8 @@ use Rattle.std.proofs.Common.{◌≡◌, ◌<◌, length, arith}
 use Rattle.file.proofs.Numbers.{started, one_digit_more, no_longer}
 use Rattle.file.proofs.number.read_number.Goals as goal
 
-pub next-value-requires : goal.next-value-requires
-next-value-requires c =
+pub next_value-requires : goal.next_value-requires
+next_value-requires c =
     let i = c.loop-next.invariant in
     started c.args.file.now c.args.start c.loop-next.value c.loop-next.next i.0 i.1 i.2 i.3 i.4
 
@@ -31,13 +31,13 @@ returns-after-loop-next c =
       longest = no_longer c.args.file.now c.args.start c.loop-next.value c.loop-next.next i.0 i.1 i.2 i.3 i.4 (λ lt. absurd (omega arith));
     }
 
-pub returns-in-default : goal.returns-in-default
-returns-in-default c =
+pub returns-in_default : goal.returns-in_default
+returns-in_default c =
     let i = c.loop-next.invariant in
     record {
       order = i.0;
       within = i.1;
       small = i.2;
       same = i.4;
-      longest = no_longer c.args.file.now c.args.start c.loop-next.value c.loop-next.next i.0 i.1 i.2 i.3 i.4 (λ lt. c.in-default.ensures);
+      longest = no_longer c.args.file.now c.args.start c.loop-next.value c.loop-next.next i.0 i.1 i.2 i.3 i.4 (λ lt. c.in_default.ensures);
     }

@@ -10,15 +10,15 @@ use Rattle.file.proofs.print.write_row.Goals as goal
 pub loop-i-init : goal.loop-i-init
 loop-i-init c = ([], wrote_nothing _ _ (omega arith), refl)
 
-pub write-field-next-requires : goal.write-field-next-requires
-write-field-next-requires c =
+pub write_field-next-requires : goal.write_field-next-requires
+write_field-next-requires c =
     let i = c.loop-i.invariant in
     omega (arith, i.1.place, row_step_long c.args.figures.now c.loop-i.i (Natural 0) c.loop-i-test.true, ap length i.2, length-append i.0 (row (map figure_text (drop c.loop-i.i c.args.figures.now))))
 
 pub loop-i-preserved : goal.loop-i-preserved
 loop-i-preserved c =
     let i = c.loop-i.invariant in
-    (_, wrote_more _ _ _ _ _ _ _ _ (omega arith) i.1 c.write-field-next.ensures, row_more _ c.loop-i.i (Natural 0) i.0 _ c.loop-i-test.true c.ending.ensures i.2)
+    (_, wrote_more _ _ _ _ _ _ _ _ (omega arith) i.1 c.write_field-next.ensures, row_more _ c.loop-i.i (Natural 0) i.0 _ c.loop-i-test.true c.ending.ensures i.2)
 
 pub returns : goal.returns
 returns c =

@@ -8,6 +8,6 @@ use Rattle.file.proofs.rule.read_rule.Goals as goal
 pub returns-then-count-text : goal.returns-then-count-text
 returns-then-count-text c =
     body_breaks Rule _ _ _
-    (name_breaks c.args.file.now c.args.start c.name-at-name.result c.agreement-count.result c.requires c.name-at-name.ensures
-    (subst (λ (t : List ℕ). Agrees c.args.file.now c.args.start t c.agreement-count.result) c.name-line-text.ensures c.agreement-count.ensures)
-    (subst (λ (t : List ℕ). c.agreement-count.result < length t) c.name-line-text.ensures c.if-count-text.true))
+    (name_breaks c.args.file.now c.args.start c.name_at-name.result c.agreement-count.result c.requires c.name_at-name.ensures
+    (subst (λ (t : List ℕ). Agrees c.args.file.now c.args.start t c.agreement-count.result) c.name_line-text.ensures c.agreement-count.ensures)
+    (subst (λ (t : List ℕ). c.agreement-count.result < length t) c.name_line-text.ensures c.if-count-text.true))

@@ -9,5 +9,5 @@ loop-block-init c = every_none _
 pub loop-block-preserved : goal.loop-block-preserved
 loop-block-preserved c = search (rules, every_more)
 
-pub returns-then-not-is-fair : goal.returns-then-not-is-fair
-returns-then-not-is-fair c = sym (every_not (fair_at c.args.blocks.now) _ c.loop-block.block-index c.loop-block-test.true (search rules))
+pub returns-then-not-is_fair : goal.returns-then-not-is_fair
+returns-then-not-is_fair c = sym (every_not (fair_at c.args.blocks.now) _ c.loop-block.block-index c.loop-block-test.true (search rules))

@@ -6,11 +6,11 @@ use Rattle.hour.specs.Blocks.{fair_at, sound_blocks}
 use Rattle.hour.proofs.Soundness.{sound_by_order, too_few, too_many, unfair, too_large, sound_words}
 use Rattle.hour.proofs.blocks.are_sound.Goals as goal
 
-pub returns-then-is-empty : goal.returns-then-is-empty
-returns-then-is-empty c = record { value = search (rules, too_few, too_many); words = λ e. absurd (both_ways _ refl e) }
+pub returns-then-is_empty : goal.returns-then-is_empty
+returns-then-is_empty c = record { value = search (rules, too_few, too_many); words = λ e. absurd (both_ways _ refl e) }
 
-pub returns-then-not-all-fair : goal.returns-then-not-all-fair
-returns-then-not-all-fair c = record { value = search (rules, unfair, too_large); words = λ e. absurd (both_ways _ refl e) }
+pub returns-then-not-all_fair : goal.returns-then-not-all_fair
+returns-then-not-all_fair c = record { value = search (rules, unfair, too_large); words = λ e. absurd (both_ways _ refl e) }
 
 pub returns : goal.returns
 returns c =
@@ -20,6 +20,6 @@ returns c =
     let fair : every (fair_at blocks) (length blocks) ≡ true = search rules in
     let small : ahead blocks (length blocks) ≤ 1000 = search rules in
     record {
-      value = c.blocks-in-order.ensures.value ∙ sound_by_order c.args.kind blocks low high fair small;
-      words = λ e. sound_words c.args.kind blocks low high fair small (subst (InKindsOrder c.args.kind blocks) e c.blocks-in-order.ensures.words);
+      value = c.blocks_in_order.ensures.value ∙ sound_by_order c.args.kind blocks low high fair small;
+      words = λ e. sound_words c.args.kind blocks low high fair small (subst (InKindsOrder c.args.kind blocks) e c.blocks_in_order.ensures.words);
     }

@@ -4,8 +4,8 @@ use Rattle.hour.specs.Market.{blocks_of, reading_at}
 use Rattle.hour.specs.Figure.{figure_at}
 use Rattle.hour.proofs.figure.figure_at.Goals as goal
 
-pub asset-figure-requires : goal.asset-figure-requires
-asset-figure-requires c =
+pub asset_figure-requires : goal.asset_figure-requires
+asset_figure-requires c =
     let small = c.requires.ranged.1 c.args.place in
     record {
       reading = search rules;

@@ -14,9 +14,9 @@ loop-place-preserved c =
     let fails : owned c.args.market.now c.args.participant c.loop-place.place ≡ false = search rules in
     total_more _ _ ∙ ap (λ n. n + cond (owned c.args.market.now c.args.participant c.loop-place.place) 1 0) c.loop-place.invariant ∙ ap (λ b. 0 + cond b 1 0) fails
 
-pub returns-then-is-owned : goal.returns-then-is-owned
+pub returns-then-is_owned : goal.returns-then-is_owned
 unfolding listed
-returns-then-is-owned c =
+returns-then-is_owned c =
     let passes : owned c.args.market.now c.args.participant c.loop-place.place ≡ true = search rules in
     sym (lt-ltb 0 _ (count_positive (owned c.args.market.now c.args.participant) 64 c.loop-place.place c.loop-place-test.true passes))
 

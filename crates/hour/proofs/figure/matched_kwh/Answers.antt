@@ -11,8 +11,8 @@ loop-place-preserved c =
     let small = c.requires c.loop-place.place in
     search (rules, total_more)
 
-pub overflow-add-sum : goal.overflow-add-sum
-overflow-add-sum c =
+pub overflow_add-sum : goal.overflow_add-sum
+overflow_add-sum c =
     let small = c.requires c.loop-place.place in
     search rules
 

@@ -13,9 +13,9 @@ loop-place-preserved c =
     let fails : unread c.args.market.now c.loop-place.place ≡ false = search rules in
     first_place_not (unread c.args.market.now) c.loop-place.place c.loop-place.invariant fails
 
-pub returns-then-is-unread : goal.returns-then-is-unread
+pub returns-then-is_unread : goal.returns-then-is_unread
 unfolding first_unread
-returns-then-is-unread c =
+returns-then-is_unread c =
     let passes : unread c.args.market.now c.loop-place.place ≡ true = search rules in
     ap Some (add-one c.loop-place.place) ∙ ap (option_map suc) (first_place_found (unread c.args.market.now) 64 c.loop-place.place c.loop-place-test.true c.loop-place.invariant passes)
 

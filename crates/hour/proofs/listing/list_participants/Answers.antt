@@ -2,7 +2,7 @@ use Rattle.std.proofs.Common.{◌≡◌, ℕ, ◌+◌, true, false, List, length
 use Rattle.hour.specs.Figure.{listed}
 use Rattle.hour.proofs.Listings.{Written, listing_none, written_yes, written_no, written_at}
 use Rattle.hour.proofs.listing.list_participants.Goals as goal
-use Rattle.hour.proofs.listing.list_participants.Goals.{then-is-listed, else-is-listed}
+use Rattle.hour.proofs.listing.list_participants.Goals.{then-is_listed, else-is_listed}
 
 pub loop-place-init : goal.loop-place-init
 loop-place-init c = (sym (listing_none _), sym (ap length (listing_none _)), omega arith, refl)
@@ -11,11 +11,11 @@ pub loop-place-preserved : goal.loop-place-preserved
 loop-place-preserved c =
     let m = c.args.market.now in
     let n = c.loop-place.place in
-    elim c.if-is-listed.branch [
-      | then-is-listed w ↦
-          let on : listed m (n + 1) ≡ true = sym c.is-listed.ensures ∙ w.if-is-listed.true in
+    elim c.if-is_listed.branch [
+      | then-is_listed w ↦
+          let on : listed m (n + 1) ≡ true = sym c.is_listed.ensures ∙ w.if-is_listed.true in
           written_at m (n + 1) _ _ _ _ w.participants-is w.count_is (written_yes m n c.loop-place.participants c.loop-place.count c.loop-place-test.true c.loop-place.invariant on)
-      | else-is-listed w ↦
-          let off : listed m (n + 1) ≡ false = sym c.is-listed.ensures ∙ w.if-is-listed.false in
+      | else-is_listed w ↦
+          let off : listed m (n + 1) ≡ false = sym c.is_listed.ensures ∙ w.if-is_listed.false in
           written_at m (n + 1) _ _ _ _ w.participants-is w.count_is (written_no m n c.loop-place.participants c.loop-place.count c.loop-place.invariant off)
     ]

@@ -3,4 +3,4 @@ use Rattle.std.proofs.lemmas.Str.Pattern.{split_parts}
 use Rattle.hourbill.proofs.field.block.Goals as goal
 
 pub returns : goal.returns
-returns c = search (rules, split_parts 58 c.args.text.now c.split-once.result c.split-once.ensures.cases (omega arith))
+returns c = search (rules, split_parts 58 c.args.text.now c.split_once.result c.split_once.ensures.cases (omega arith))

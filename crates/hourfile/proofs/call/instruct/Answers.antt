@@ -9,7 +9,7 @@ pub unreachable-requires-in-Err : goal.unreachable-requires-in-Err
 unreachable-requires-in-Err c =
     let before = c.args.hour.now.book in
     let between = c.propose.new.self.book in
-    let p = c.in-ok-propose.ensures in
+    let p = c.in_ok-propose.ensures in
     let own : c.in-Some.owner ≡ owner_of before.market c.args.sink =
     owner_is between.market c.args.sink c.in-Some.owner c.in-Some.ensures ∙ ap (λ m. owner_of m c.args.sink) p.others.market in
     not_refused (confirm_reasons between c.args.number (owner_of before.market c.args.sink)) c.in-Err.field-0
@@ -20,7 +20,7 @@ pub returns : goal.returns
 returns c =
     let before = c.args.hour.now.book in
     let between = c.propose.new.self.book in
-    let p = c.in-ok-propose.ensures in
+    let p = c.in_ok-propose.ensures in
     let own : c.in-Some.owner ≡ owner_of before.market c.args.sink =
     owner_is between.market c.args.sink c.in-Some.owner c.in-Some.ensures ∙ ap (λ m. owner_of m c.args.sink) p.others.market in
     record {

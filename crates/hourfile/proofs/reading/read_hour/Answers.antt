@@ -2,18 +2,18 @@ use Rattle.hourfile.proofs.Openings.{closed, surplus, ended}
 use Rattle.hourfile.proofs.Passing.{handed_on}
 use Rattle.hourfile.proofs.reading.read_hour.Goals as goal
 
-pub enter-lines-requires : goal.enter-lines-requires
-enter-lines-requires c =
-    let stop = c.in-ok-entries.ensures in
+pub enter_lines-requires : goal.enter_lines-requires
+enter_lines-requires c =
+    let stop = c.in_ok-entries.ensures in
     record {
       few = c.requires;
-      entering = closed c.args.file.now c.trade-lines.new.hour.market c.close-hour.result.book c.in-ok-entries.entries stop.0 stop.1 c.close-hour.ensures.state;
+      entering = closed c.args.file.now c.trade_lines.new.hour.market c.close-hour.result.book c.in_ok-entries.entries stop.0 stop.1 c.close-hour.ensures.state;
     }
 
-pub returns-in-err-check-end : goal.returns-in-err-check-end
-returns-in-err-check-end c =
-    handed_on _ _ _ _ c.from-residual-in-err-check-end.ensures.1
-    (surplus c.args.file.now c.requires c.enter-lines.new.hour.book c.in-ok-end.end c.in-ok-end.rule c.in-ok-end.ensures _ c.in-err-check-end.ensures)
+pub returns-in_err-check_end : goal.returns-in_err-check_end
+returns-in_err-check_end c =
+    handed_on _ _ _ _ c.from_residual-in_err-check_end.ensures.1
+    (surplus c.args.file.now c.requires c.enter_lines.new.hour.book c.in_ok-end.end c.in_ok-end.rule c.in_ok-end.ensures _ c.in_err-check_end.ensures)
 
 pub returns : goal.returns
-returns c = ended c.args.file.now c.requires c.enter-lines.new.hour.book c.in-ok-end.end c.in-ok-end.rule c.in-ok-end.ensures _ c.in-ok-check-end.ensures
+returns c = ended c.args.file.now c.requires c.enter_lines.new.hour.book c.in_ok-end.end c.in_ok-end.rule c.in_ok-end.ensures _ c.in_ok-check_end.ensures

@@ -15,11 +15,11 @@ record Decided (file : List ℕ) (lines : List PrintLine) : Type 0 where
   pub right : Outcome file outcome
   pub same : lines ≡ print outcome
 
-decided-ok : (c : goal.In-Ok-write) → Decided c.args.file.now (lines_of c.match-settle-hour.print)
+decided-ok : (c : goal.In-Ok-write) → Decided c.args.file.now (lines_of c.match-settle_hour.print)
 decided-ok c =
-    elim c.match-settle-hour.branch [
+    elim c.match-settle_hour.branch [
       | in-Ok w ↦ record { outcome = Ok (lines_of w.in-Ok.statement); right = w.in-Ok.ensures; same = ap lines_of w.print-is }
-      | in-Err w ↦ record { outcome = Err w.in-Err.at; right = w.in-Err.ensures; same = ap lines_of w.print-is ∙ w.fault-print-print.ensures }
+      | in-Err w ↦ record { outcome = Err w.in-Err.at; right = w.in-Err.ensures; same = ap lines_of w.print-is ∙ w.fault_print-print.ensures }
     ]
 
 pub returns-in-Ok-write : goal.returns-in-Ok-write
@@ -32,11 +32,11 @@ returns-in-Ok-write c =
       fills = subst (λ lines. Fills lines c.args.text.now (Ok c.in-Ok-write.count) c.write.new.text) d.same c.in-Ok-write.ensures;
     }
 
-decided-err : (c : goal.In-Err-write) → Decided c.args.file.now (lines_of c.match-settle-hour.print)
+decided-err : (c : goal.In-Err-write) → Decided c.args.file.now (lines_of c.match-settle_hour.print)
 decided-err c =
-    elim c.match-settle-hour.branch [
+    elim c.match-settle_hour.branch [
       | in-Ok w ↦ record { outcome = Ok (lines_of w.in-Ok.statement); right = w.in-Ok.ensures; same = ap lines_of w.print-is }
-      | in-Err w ↦ record { outcome = Err w.in-Err.at; right = w.in-Err.ensures; same = ap lines_of w.print-is ∙ w.fault-print-print.ensures }
+      | in-Err w ↦ record { outcome = Err w.in-Err.at; right = w.in-Err.ensures; same = ap lines_of w.print-is ∙ w.fault_print-print.ensures }
     ]
 
 pub returns-in-Err-write : goal.returns-in-Err-write

@@ -8,8 +8,8 @@ use Rattle.splitting.proofs.largest.places_before.Goals.{then-comes_before, else
 pub loop-other-init : goal.loop-other-init
 loop-other-init c = search (rules, sum_over_none)
 
-pub remainder-of-remainder-requires : goal.remainder-of-remainder-requires
-remainder-of-remainder-requires c =
+pub remainder_of-remainder-requires : goal.remainder_of-remainder-requires
+remainder_of-remainder-requires c =
     (c.requires.limits.small, omega (arith, weight_le c.args.total c.args.weights.now c.requires.limits c.loop-other.other c.loop-other-test.true))
 
 -- the answer of the test at hand
@@ -24,9 +24,9 @@ loop-other-preserved c =
     let test = λ (o : ℕ). larger c.args.total c.args.weights.now o c.args.place in
     elim c.if-comes_before.branch [
       | then-comes_before w ↦
-          let more = how_many_more test c.loop-other.other true (sym w.if-comes-before.true ∙ answered c) in
+          let more = how_many_more test c.loop-other.other true (sym w.if-comes_before.true ∙ answered c) in
           (omega (arith, w.count_is), omega (arith, w.count_is))
       | else-comes_before w ↦
-          let more = how_many_more test c.loop-other.other false (sym w.if-comes-before.false ∙ answered c) in
+          let more = how_many_more test c.loop-other.other false (sym w.if-comes_before.false ∙ answered c) in
           (omega (arith, w.count_is), omega (arith, w.count_is))
     ]

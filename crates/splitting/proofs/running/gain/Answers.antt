@@ -2,8 +2,8 @@ use Rattle.std.proofs.Common.{◌+◌, ◌*◌, mul-add, arith}
 use Rattle.splitting.specs.Gains.{div_rises}
 use Rattle.splitting.proofs.running.gain.Goals as goal
 
-pub overflow-sub-result : goal.overflow-sub-result
-overflow-sub-result c =
+pub overflow_sub-result : goal.overflow_sub-result
+overflow_sub-result c =
     omega (
       arith,
       div_rises (c.args.total * c.args.front) (c.args.total * (c.args.front + c.args.weight)) c.args.all

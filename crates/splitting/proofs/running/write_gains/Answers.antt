@@ -5,8 +5,8 @@ use Rattle.splitting.specs.Gains.{front_more, gain}
 use Rattle.splitting.proofs.Written.{write_more, write_all}
 use Rattle.splitting.proofs.running.write_gains.Goals as goal
 
-pub overflow-add-front : goal.overflow-add-front
-overflow-add-front c =
+pub overflow_add-front : goal.overflow_add-front
+overflow_add-front c =
     let more = front_more c.args.weights.now c.loop-place.place c.loop-place-test.true in
     omega (arith, sum_by-take-le (λ x. x) c.args.weights.now (c.loop-place.place + 1))
 

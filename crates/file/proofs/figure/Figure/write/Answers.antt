@@ -6,9 +6,9 @@ use Rattle.file.proofs.figure.Figure.write.Goals as goal
 
 pub returns-in-Signed : goal.returns-in-Signed
 returns-in-Signed c =
-    let size : c.unsigned-abs.result ≡ nat_abs c.in-Signed.value = search (rules, to_z-of_z) in
+    let size : c.unsigned_abs.result ≡ nat_abs c.in-Signed.value = search (rules, to_z-of_z) in
     let negative : c.in-Signed.value <ℤ pos 0 = search (rules, to_z-of_z) in
-    let text : figure_text c.args.self ≡ 45 ∷ decimal c.unsigned-abs.result =
+    let text : figure_text c.args.self ≡ 45 ∷ decimal c.unsigned_abs.result =
     ap figure_text c.in-Signed.is ∙ negative_text c.in-Signed.value negative ∙ ap (λ (n : ℕ). 45 ∷ decimal n) (sym size) in
-    subst (λ (bytes : List ℕ). Wrote c.args.text.now c.args.start bytes c.write-number-in-Signed.new.text c.write-number-in-Signed.result) (sym text)
-    (wrote_more _ _ _ _ _ _ _ _ (omega arith) c.write-byte-next.ensures c.write-number-in-Signed.ensures)
+    subst (λ (bytes : List ℕ). Wrote c.args.text.now c.args.start bytes c.write_number-in-Signed.new.text c.write_number-in-Signed.result) (sym text)
+    (wrote_more _ _ _ _ _ _ _ _ (omega arith) c.write_byte-next.ensures c.write_number-in-Signed.ensures)

@@ -13,5 +13,5 @@ returns c =
     ap (λ (k : List ℕ). k ++ row (map figure_text (take (figures.count - 0) figures.held))) c.key.ensures
     ∙ ap (λ (n : ℕ). print_key c.args.self ++ row (map figure_text (take n figures.held))) whole
     ∙ ap (λ (fs : List (List ℕ)). print_key c.args.self ++ row fs) c.figures-figures.ensures.fields in
-    subst (λ (bytes : List ℕ). Wrote c.args.text.now c.args.start bytes c.write-row.new.text c.write-row.result) text
-    (wrote_more _ _ _ _ _ _ _ _ (omega arith) c.write-bytes-next.ensures c.write-row.ensures)
+    subst (λ (bytes : List ℕ). Wrote c.args.text.now c.args.start bytes c.write_row.new.text c.write_row.result) text
+    (wrote_more _ _ _ _ _ _ _ _ (omega arith) c.write_bytes-next.ensures c.write_row.ensures)

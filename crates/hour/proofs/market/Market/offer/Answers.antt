@@ -7,12 +7,12 @@ use Rattle.hour.proofs.market.Market.offer.Goals as goal
 
 pub returns : goal.returns
 returns c =
-    let held : c.in-Some-sound-list.list ≡ block_list c.args.blocks.now = cond_some _ _ _ c.in-Some-sound-list.ensures in
+    let held : c.in-Some-sound_list.list ≡ block_list c.args.blocks.now = cond_some _ _ _ c.in-Some-sound_list.ensures in
     record { answer = search rules; state = search rules }
 
-pub returns-in-err-place : goal.returns-in-err-place
-returns-in-err-place c =
+pub returns-in_err-place : goal.returns-in_err-place
+returns-in_err-place c =
     let b = c.args.self.now in
-    let p = err_from_is_err_and c.from-residual.result c.from-residual.ensures.1 in
-    let stop = failed _ _ _ _ c.in-err-place.ensures.value in
+    let p = err_from_is_err_and c.from_residual.result c.from_residual.ensures.1 in
+    let stop = failed _ _ _ _ c.in_err-place.ensures.value in
     rw (p.1, p.2) (record { answer = ap Err stop.1 ∙ refused_at 0 (offer_reasons b c.args.asset c.args.blocks.now) (Ok tt) stop.0; state = refl })

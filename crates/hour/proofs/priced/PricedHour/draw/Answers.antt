@@ -7,8 +7,8 @@ draw-requires g c =
     let h = c.args.self.now in
     record { ranged = (h.offers, h.readings, h.joined); posted = h.posted }
 
-pub invariant-of-self : goal.invariant-of-self
-invariant-of-self g c =
+pub invariant_of-self : goal.invariant_of-self
+invariant_of-self g c =
     let h = c.args.self.now in
     let kept : Kept h.book = (h.tables, (h.offers, (h.readings, (h.joined, (h.posted, (h.drawn, (h.whole, tt))))))) in
     draw_kept (g.R.Apportion.meaning c.args.rule.now) h.book c.draw.result _ c.draw.ensures.state kept c.draw.ensures.within

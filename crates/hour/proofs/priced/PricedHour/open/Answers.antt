@@ -12,8 +12,8 @@ all_free assets zero k = refl
 all_free assets (suc n) zero = refl
 all_free assets (suc n) (suc k) = all_free assets n k
 
-pub invariant-of-result : goal.invariant-of-result
-invariant-of-result c =
+pub invariant_of-result : goal.invariant_of-result
+invariant_of-result c =
     let m = c.args.market in
     let kept : Kept (new_book m) = (
       (c.requires.tables.0, c.requires.tables.1, c.requires.tables.2, refl, refl),

@@ -2,8 +2,8 @@ use Rattle.hour.proofs.PricedSteps.{Kept}
 use Rattle.hour.proofs.RunSteps.{post_kept, post_words}
 use Rattle.hour.proofs.priced.PricedHour.post.Goals as goal
 
-pub invariant-of-self : goal.invariant-of-self
-invariant-of-self c =
+pub invariant_of-self : goal.invariant_of-self
+invariant_of-self c =
     let h = c.args.self.now in
     let kept : Kept h.book = (h.tables, (h.offers, (h.readings, (h.joined, (h.posted, (h.drawn, (h.whole, tt))))))) in
     post_kept h.book c.args.slip _ kept c.post.ensures.state

@@ -1,8 +1,8 @@
 use Rattle.hour.proofs.PricedSteps.{Kept, propose_kept, propose_words}
 use Rattle.hour.proofs.priced.PricedHour.propose.Goals as goal
 
-pub invariant-of-self : goal.invariant-of-self
-invariant-of-self c =
+pub invariant_of-self : goal.invariant_of-self
+invariant_of-self c =
     let h = c.args.self.now in
     let kept : Kept h.book = (h.tables, (h.offers, (h.readings, (h.joined, (h.posted, (h.drawn, (h.whole, tt))))))) in
     propose_kept h.book c.args.number c.args.source c.args.sink c.args.kwh c.propose.result _ c.propose.ensures.answer c.propose.ensures.state kept

@@ -1,8 +1,8 @@
 use Rattle.hour.proofs.PricedSteps.{Kept, withdraw_kept, withdraw_words}
 use Rattle.hour.proofs.priced.PricedHour.withdraw.Goals as goal
 
-pub invariant-of-self : goal.invariant-of-self
-invariant-of-self c =
+pub invariant_of-self : goal.invariant_of-self
+invariant_of-self c =
     let h = c.args.self.now in
     let kept : Kept h.book = (h.tables, (h.offers, (h.readings, (h.joined, (h.posted, (h.drawn, (h.whole, tt))))))) in
     withdraw_kept h.book c.args.number c.args.participant c.withdraw.result _ c.withdraw.ensures.answer c.withdraw.ensures.state kept

@@ -1,8 +1,8 @@
 use Rattle.hour.proofs.TradeSteps.{TradeKept, enrol_kept, enrol_words}
 use Rattle.hour.proofs.trading.TradingHour.enrol.Goals as goal
 
-pub invariant-of-self : goal.invariant-of-self
-invariant-of-self c =
+pub invariant_of-self : goal.invariant_of-self
+invariant_of-self c =
     let h = c.args.self.now in
     let kept : TradeKept h.market = (h.tables, (h.offers, (h.unread, tt))) in
     enrol_kept h.market c.args.asset c.args.letter c.args.owner c.enrol.result _ kept c.enrol.ensures.answer c.enrol.ensures.state

@@ -1,8 +1,8 @@
 use Rattle.hour.proofs.TradeSteps.{TradeKept, offer_kept, offer_words}
 use Rattle.hour.proofs.trading.TradingHour.offer.Goals as goal
 
-pub invariant-of-self : goal.invariant-of-self
-invariant-of-self c =
+pub invariant_of-self : goal.invariant_of-self
+invariant_of-self c =
     let h = c.args.self.now in
     let kept : TradeKept h.market = (h.tables, (h.offers, (h.unread, tt))) in
     offer_kept h.market c.args.asset c.args.blocks.now c.offer.result _ kept c.offer.ensures.answer c.offer.ensures.state

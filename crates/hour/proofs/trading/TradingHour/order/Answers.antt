@@ -1,8 +1,8 @@
 use Rattle.hour.proofs.TradeSteps.{TradeKept, order_kept, order_words}
 use Rattle.hour.proofs.trading.TradingHour.order.Goals as goal
 
-pub invariant-of-self : goal.invariant-of-self
-invariant-of-self c =
+pub invariant_of-self : goal.invariant_of-self
+invariant_of-self c =
     let h = c.args.self.now in
     let kept : TradeKept h.market = (h.tables, (h.offers, (h.unread, tt))) in
     order_kept h.market c.args.asset c.args.minute c.args.level c.order.result _ kept c.order.ensures.answer c.order.ensures.state

@@ -1,8 +1,8 @@
 use Rattle.hour.proofs.TradeSteps.{TradeKept, shed_kept, shed_words}
 use Rattle.hour.proofs.trading.TradingHour.shed.Goals as goal
 
-pub invariant-of-self : goal.invariant-of-self
-invariant-of-self c =
+pub invariant_of-self : goal.invariant_of-self
+invariant_of-self c =
     let h = c.args.self.now in
     let kept : TradeKept h.market = (h.tables, (h.offers, (h.unread, tt))) in
     shed_kept h.market c.args.first c.args.end c.shed.result _ kept c.shed.ensures.answer c.shed.ensures.state

@@ -5,8 +5,8 @@ use Rattle.prices.specs.Setter.{setter_of, setter_is}
 use Rattle.prices.proofs.Pricing.{setter_words, setter_found}
 use Rattle.prices.proofs.schedule.Schedule.setter.Goals as goal
 
-pub returns-then-is-marked : goal.returns-then-is-marked
-returns-then-is-marked c =
+pub returns-then-is_marked : goal.returns-then-is_marked
+returns-then-is_marked c =
     let value : None ≡ setter_of c.args.self.now c.args.minute = search (rules, setter_is) in
     record { value = value; words = setter_words _ _ _ value }
 

@@ -1,11 +1,10 @@
 -- What holds of a level that fills a block list. Assumes nothing.
-use Rattle.std.proofs.Common.{◌≡◌, ℕ, ◌<◌, ◌≤◌, min, Bool, true, false, cond, ltb, List, map, length, get_or, take, Some, None, Option, sym, refl, ap, ◌∙◌, subst, inl, inr, arith}
+use Rattle.std.proofs.Common.{◌≡◌, ℕ, ◌<◌, ◌≤◌, min, ltb, List, map, length, get_or, take, Some, None, Option, sym, refl, ap, ◌∙◌, subst, inl, inr, arith}
 use Rattle.std.specs.List.{range_with_len}
 use Rattle.std.proofs.lemmas.Bool.{cases_lt, lt-ltb, cond-true, cond-false, le-ltb}
 use Rattle.std.proofs.lemmas.List.FromFn.{take-map-range_with_len, fill_by_all}
 use Rattle.prices.specs.declared.block.Block.{Block}
-use Rattle.prices.specs.Range.{highest}
-use Rattle.prices.specs.Block.{power, price_at, price_with_power, dispatched_price, marginal, Marginal, Reached, no_block, block_list, listed}
+use Rattle.prices.specs.Block.{power, price_at, price_with_power, dispatched_price, marginal, Marginal, no_block, block_list, listed}
 use Rattle.prices.proofs.Ranges.{Greatest, highest_greatest}
 
 -- a price counts exactly if there is power

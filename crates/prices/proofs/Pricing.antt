@@ -1,12 +1,12 @@
 -- The system price and the setter in words. Assumes nothing.
-use Rattle.std.proofs.Common.{◌≡◌, ℕ, suc, ◌+◌, ◌<◌, ◌≤◌, Bool, true, false, cond, eqb, Some, None, Option, unwrap_or, sym, refl, ap, ◌∙◌, subst, arith}
+use Rattle.std.proofs.Common.{◌≡◌, ℕ, suc, ◌<◌, Bool, true, false, cond, Some, None, Option, unwrap_or, sym, refl, ap, ◌∙◌, subst, arith}
 use native.Mathlib.Numerals.{suc-eq-add-one}
 use Rattle.std.specs.Option.{option_map}
 use Rattle.std.proofs.lemmas.Bool.{eqb-true, eq-eqb, both_ways, cond-false}
 use Rattle.prices.specs.declared.schedule.Schedule.{Schedule}
-use Rattle.prices.specs.Range.{highest, first_place}
+use Rattle.prices.specs.Range.{first_place}
 use Rattle.prices.specs.Schedule.{marked_in, proposed, top_price, system_price, SystemPrice}
-use Rattle.prices.specs.Setter.{setter_of, setter_is, is_number, sets_price, Names, Sets}
+use Rattle.prices.specs.Setter.{setter_of, setter_is, is_number, sets_price, Sets}
 use Rattle.prices.proofs.Ranges.{Greatest, highest_greatest, Least, first_place_least}
 
 conflict : {A : Type 0} {x : Option ℕ} {q : ℕ} → x ≡ None → x ≡ Some q → A

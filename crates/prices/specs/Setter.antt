@@ -1,5 +1,5 @@
 -- The asset that sets the system price of a minute, and how many minutes each asset sets. Assumes nothing.
-use Rattle.std.specs.Prelude.{◌≡◌, ℕ, suc, ◌+◌, ◌<◌, Bool, true, false, cond, Some, None, Option, ◌==◌, refl}
+use Rattle.std.specs.Prelude.{◌≡◌, ℕ, suc, ◌+◌, ◌<◌, Bool, false, cond, Some, None, Option, ◌==◌, refl}
 use Rattle.std.specs.Option.{option_map}
 use Rattle.prices.specs.declared.schedule.Schedule.{Schedule}
 use Rattle.prices.specs.Range.{count, first_place}

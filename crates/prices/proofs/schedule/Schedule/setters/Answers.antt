@@ -1,4 +1,4 @@
-use Rattle.std.proofs.Common.{rules, below_more}
+use Rattle.std.proofs.Common.{rules}
 use Rattle.std.proofs.lemmas.List.{length-set}
 use Rattle.std.proofs.lemmas.List.Edits.{fill_by_more}
 use Rattle.prices.proofs.schedule.Schedule.setters.Goals as goal

@@ -14,8 +14,8 @@ loop-place-preserved c =
     elim c.if-is_listed.branch [
       | then-is_listed w ↦
           let on : listed m (n + 1) ≡ true = sym c.is_listed.ensures ∙ w.if-is_listed.true in
-          written_at m (n + 1) _ _ _ _ w.participants-is w.count_is (written_yes m n c.loop-place.participants c.loop-place.count c.loop-place-test.true c.loop-place.invariant on)
+          written_at m (n + 1) _ _ _ _ w.participants-is w.count-is (written_yes m n c.loop-place.participants c.loop-place.count c.loop-place-test.true c.loop-place.invariant on)
       | else-is_listed w ↦
           let off : listed m (n + 1) ≡ false = sym c.is_listed.ensures ∙ w.if-is_listed.false in
-          written_at m (n + 1) _ _ _ _ w.participants-is w.count_is (written_no m n c.loop-place.participants c.loop-place.count c.loop-place.invariant off)
+          written_at m (n + 1) _ _ _ _ w.participants-is w.count-is (written_no m n c.loop-place.participants c.loop-place.count c.loop-place.invariant off)
     ]

@@ -13,8 +13,8 @@ whole_cents-left-requires c =
     (c.requires.limits.small, omega (arith, weight_le c.args.total c.args.weights.now c.requires.limits c.loop-weight.weight-index c.loop-weight-test.true))
 
 -- the whole cents of the weight at hand
-here : (c : goal.After-whole_cents_left) → c.whole_cents_left.result ≡ whole_at c.args.total c.args.weights.now c.loop-weight.weight-index
-here c = c.whole_cents_left.ensures ∙ rw (c.from.ensures, c.requires.sum) refl
+here : (c : goal.After-whole_cents-left) → c.whole_cents-left.result ≡ whole_at c.args.total c.args.weights.now c.loop-weight.weight-index
+here c = c.whole_cents-left.ensures ∙ rw (c.from.ensures, c.requires.sum) refl
 
 pub overflow_sub-left : goal.overflow_sub-left
 overflow_sub-left c =

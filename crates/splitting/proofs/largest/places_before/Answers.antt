@@ -17,7 +17,7 @@ answered : (c : goal.Joined-comes_before) → c.comes_before.result ≡ larger c
 answered c =
     let other : c.remainder_of-remainder.result ≡ remainder_at c.args.total c.args.weights.now c.loop-other.other =
     c.remainder_of-remainder.ensures ∙ rw (c.from.ensures, c.requires.sum) refl in
-    c.comes_before.ensures ∙ rw (c.requires.own_val, other) refl
+    c.comes_before.ensures ∙ rw (c.requires.own, other) refl
 
 pub loop-other-preserved : goal.loop-other-preserved
 loop-other-preserved c =
@@ -25,8 +25,8 @@ loop-other-preserved c =
     elim c.if-comes_before.branch [
       | then-comes_before w ↦
           let more = how_many_more test c.loop-other.other true (sym w.if-comes_before.true ∙ answered c) in
-          (omega (arith, w.count_is), omega (arith, w.count_is))
+          (omega (arith, w.count-is), omega (arith, w.count-is))
       | else-comes_before w ↦
           let more = how_many_more test c.loop-other.other false (sym w.if-comes_before.false ∙ answered c) in
-          (omega (arith, w.count_is), omega (arith, w.count_is))
+          (omega (arith, w.count-is), omega (arith, w.count-is))
     ]

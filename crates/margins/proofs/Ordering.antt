@@ -5,7 +5,7 @@ use Rattle.prices.specs.declared.block.Block.{Block}
 use Rattle.prices.specs.declared.kind.Kind.{Kind}
 use Rattle.prices.specs.declared.kind.Kind.TheVariants.{Generator, Import, Load, Export}
 use Rattle.prices.specs.Block.{price_at}
-use Rattle.prices.specs.Kind.{source, sink}
+use Rattle.prices.specs.Kind.{source}
 use Rattle.margins.specs.Side.{StrictOrder, lower_first, higher_first}
 use Rattle.margins.specs.Order.{every, next_in_order, ordered, InOrder, Rising, Falling, InKindsOrder}
 

@@ -1,10 +1,9 @@
 -- What a draw answers and leaves, exit by exit. Assumes nothing.
-use Rattle.std.proofs.Common.{◌≡◌, ℕ, ◌+◌, ◌<◌, ◌≤◌, Bool, true, false, cond, ◌&&◌, ◌||◌, eqb, ltb, leb, List, [], ◌∷◌, ◌++◌, length, take, drop, is_some, Some, None, Ok, Err, sum, Option, Result, unwrap_or, sym, refl, ap, ◌∙◌, subst, arith}
+use Rattle.std.proofs.Common.{◌≡◌, ℕ, ◌+◌, ◌≤◌, Bool, true, false, cond, ltb, leb, List, [], ◌∷◌, ◌++◌, length, drop, is_some, Some, None, Ok, Err, Result, unwrap_or, sym, refl, ap, ◌∙◌, arith}
 use Rattle.std.proofs.lemmas.List.{length-map}
-use Rattle.std.proofs.lemmas.Bool.{cond-true, cond-false, le-ltb, both_ways}
+use Rattle.std.proofs.lemmas.Bool.{cond-true, cond-false, le-ltb}
 use Rattle.splitting.specs.declared.fault.Fault as splitting
-use Rattle.splitting.specs.declared.fault.Fault.TheVariants.{ListTooShort, NothingWeighs, LimitPassed}
-use Rattle.splitting.specs.Weights.{first_fault}
+use Rattle.splitting.specs.declared.fault.Fault.TheVariants.{NothingWeighs, LimitPassed}
 use Rattle.hour.specs.declared.fault.Fault.{Fault}
 use Rattle.hour.specs.declared.fault.Fault.TheVariants as hour
 use Rattle.hour.specs.declared.fault.Fault.TheVariants.{RunOut, ReadingMissing, Split, DrawsUsedUp, NetTooLarge}
@@ -20,10 +19,10 @@ use Rattle.hour.specs.Reason.{Reason, when, first_fitting}
 use Rattle.hour.specs.Market.{outcome}
 use Rattle.hour.specs.Listing.{listing}
 use Rattle.hour.specs.Figure.{figure_of}
-use Rattle.hour.specs.Charge.{weighed, whole_charge, weights, stranded, over_limit, charge_reasons, both, charge_answer, charge_table}
+use Rattle.hour.specs.Charge.{weighed, weights, stranded, over_limit, charge_reasons, both, charge_answer, charge_table}
 use Rattle.hour.specs.Amounts.{instead, amounts_answer}
 use Rattle.hour.specs.Line.{new_amounts, first_beyond}
-use Rattle.hour.specs.Run.{price_of, first_unread, drawn_amounts, drawn_lines, draw_reasons, draw_answer, written_lines, slip_of, drawn}
+use Rattle.hour.specs.Run.{price_of, first_unread, drawn_lines, draw_reasons, draw_answer, written_lines, slip_of, drawn}
 use Rattle.hour.proofs.Listings.{listing_short}
 
 -- a reason that does not fit is passed over, and one that fits decides

@@ -1,5 +1,5 @@
 -- Instructions that are not free join an enrolled source and an enrolled sink. Assumes nothing.
-use Rattle.std.proofs.Common.{◌≡◌, ℕ, ◌-◌, ◌≤◌, Bool, true, false, not, ◌&&◌, leb, List, get_or, None, Option, unwrap_or, refl, arith}
+use Rattle.std.proofs.Common.{◌≡◌, ℕ, ◌-◌, ◌≤◌, true, false, leb, List, get_or, None, Option, unwrap_or, refl, arith}
 use Rattle.std.proofs.lemmas.Bool.{not-false, and_parts, and_from, leb-true}
 use Rattle.std.proofs.lemmas.Bool.Decides.{nat_tests}
 use Rattle.prices.specs.declared.asset.Asset.{Asset}

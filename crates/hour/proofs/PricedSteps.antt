@@ -1,28 +1,25 @@
 -- What is true of the tables after meter, propose, confirm and withdraw. Assumes nothing.
-use Rattle.std.proofs.Common.{◌≡◌, ℕ, ◌-◌, ◌<◌, ◌≤◌, Bool, true, false, cond, not, ◌&&◌, ◌||◌, eqb, ltb, leb, ◌⊎◌, List, length, get_or, set, is_some, is_ok, Some, None, Ok, Option, Result, unwrap_or, sym, refl, ap, ◌∙◌, subst, inl, inr, arith}
+use Rattle.std.proofs.Common.{◌≡◌, ℕ, ◌-◌, ◌<◌, ◌≤◌, true, false, not, ◌⊎◌, List, get_or, is_some, is_ok, Ok, Result, unwrap_or, sym, refl, ap, ◌∙◌, subst, inl, inr, arith}
 use Rattle.std.proofs.lemmas.List.{length-set, get_or-set_same, get_or-set_other}
-use Rattle.std.proofs.lemmas.Bool.{both_ways, not-false, and_parts, and_from, eqb-true, or_cases, ltb-false, le-leb}
+use Rattle.std.proofs.lemmas.Bool.{both_ways, not-false, eqb-true, or_cases, ltb-false}
 use Rattle.std.proofs.lemmas.Bool.Decides.{nat_tests}
-use Rattle.prices.specs.declared.asset.Asset.{Asset}
 use Rattle.prices.specs.Block.{price_at}
 use Rattle.hour.specs.declared.fault.Fault.{Fault}
 use Rattle.hour.specs.declared.record.Record.{Record}
-use Rattle.hour.specs.declared.market.Market.{Market}
 use Rattle.hour.specs.declared.book.Book.{Book}
 use Rattle.hour.specs.declared.instruction.Terms.{Terms}
 use Rattle.hour.specs.declared.instruction.Instruction.{Instruction}
 use Rattle.hour.specs.declared.instruction.Instruction.TheVariants.{Free, Proposed, Matched}
-use Rattle.hour.specs.declared.instruction.Event.{Event}
 use Rattle.hour.specs.declared.instruction.Event.TheVariants.{Propose, Confirm, Withdraw}
-use Rattle.hour.specs.Reason.{Reason, answer, Rising, outside}
+use Rattle.hour.specs.Reason.{Reason, answer, outside}
 use Rattle.hour.specs.Instruction.{next_stage, terms_of}
-use Rattle.hour.specs.Market.{outcome, asset_at, record_at, no_record, blocks_at, reading_at}
+use Rattle.hour.specs.Market.{outcome, record_at, no_record, blocks_at, reading_at}
 use Rattle.hour.specs.Line.{Item, amount_of, Within}
 use Rattle.hour.specs.Run.{out_amounts, full_run}
-use Rattle.hour.specs.Book.{FullBook, no_amounts, instruction_at, joined_by, joins, is_source, is_sink, owner_of, with_instruction, stepped, terms, meter_reasons, metered, propose_reasons, proposed, confirm_reasons, confirmed, withdraw_reasons, withdrawn}
-use Rattle.hour.specs.Priced.{OnlyReading, Metering, OnlyInstruction, Joined, Proposal, Match, Confirmation, Release, Withdrawal}
+use Rattle.hour.specs.Book.{FullBook, no_amounts, instruction_at, joined_by, joins, with_instruction, terms, meter_reasons, metered, propose_reasons, proposed, confirm_reasons, confirmed, withdraw_reasons, withdrawn}
+use Rattle.hour.specs.Priced.{OnlyReading, Metering, OnlyInstruction, Joined, Proposal, Confirmation, Withdrawal}
 use Rattle.hour.proofs.Joining.{joined_parts, proposed_joins, still_joined, freed}
-use Rattle.hour.proofs.Outcomes.{after_if, after_has, accepted, untouched, NoneFits, none_fits, getD_set_has}
+use Rattle.hour.proofs.Outcomes.{after_if, after_has, accepted, NoneFits, none_fits, getD_set_has}
 
 -- what a priced hour keeps true of its tables
 abbrev pub Kept : Book → Type 0

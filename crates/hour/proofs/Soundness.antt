@@ -1,10 +1,10 @@
 -- When a block list keeps the rules of an offer or a bid. Assumes nothing.
-use Rattle.std.proofs.Common.{◌≡◌, ℕ, ◌<◌, ◌≤◌, Bool, true, false, ◌&&◌, leb, List, length, get_or, sym, refl, ap, ◌∙◌, subst, inl, inr, arith}
+use Rattle.std.proofs.Common.{◌≡◌, ℕ, ◌<◌, ◌≤◌, Bool, true, false, ◌&&◌, List, length, sym, refl, subst, inl, inr, arith}
 use Rattle.std.proofs.lemmas.Bool.{and_parts, and_from, and_left, and_right, both_ways, cases_lt, le-leb, lt-leb, leb-true}
 use Rattle.std.proofs.lemmas.List.{get_or_past}
 use Rattle.prices.specs.declared.block.Block.{Block}
 use Rattle.prices.specs.declared.kind.Kind.{Kind}
-use Rattle.prices.specs.Block.{no_block, size_at, price_at, ahead}
+use Rattle.prices.specs.Block.{no_block, price_at, ahead}
 use Rattle.margins.specs.Order.{every, ordered_for, InKindsOrder}
 use Rattle.margins.proofs.Ordering.{every_at}
 use Rattle.hour.specs.Blocks.{fair_at, sound_blocks, SoundBlocks}

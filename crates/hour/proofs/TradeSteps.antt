@@ -1,10 +1,9 @@
 -- What is true of the tables after each trading call. Assumes nothing.
-use Rattle.std.proofs.Common.{◌≡◌, ℕ, zero, suc, ◌-◌, ◌<◌, ◌≤◌, Bool, true, false, cond, not, List, length, get_or, set, replicate, is_some, is_ok, Some, None, Ok, Option, Result, unwrap_or, sym, refl, ap, ◌∙◌, subst, inl, inr, arith}
-use Rattle.std.proofs.lemmas.List.{length-set, get_or-set_same, get_or-set_other, get_or_past}
+use Rattle.std.proofs.Common.{◌≡◌, ℕ, zero, suc, ◌-◌, ◌<◌, ◌≤◌, true, false, not, List, length, get_or, set, replicate, is_some, is_ok, Some, None, Ok, Option, Result, unwrap_or, sym, refl, ap, ◌∙◌, subst, inl, inr, arith}
+use Rattle.std.proofs.lemmas.List.{length-set, get_or-set_same, get_or-set_other}
 use Rattle.std.proofs.lemmas.Bool.{cases_lt, not-false, cond-true, cond-false, lt-ltb, le-ltb, both_ways}
 use Rattle.prices.specs.declared.block.Block.{Block}
-use Rattle.prices.specs.Block.{no_block, price_at, block_list}
-use Rattle.prices.specs.Asset.{level_in}
+use Rattle.prices.specs.Block.{price_at}
 use Rattle.prices.proofs.Filling.{listed_block_list}
 use Rattle.hour.proofs.Soundness.{sound_prices, sound_few}
 use Rattle.std.proofs.lemmas.Bool.Decides.{nat_tests}
@@ -13,10 +12,9 @@ use Rattle.hour.specs.declared.fault.Fault.{Fault}
 use Rattle.hour.specs.declared.record.Record.{Record}
 use Rattle.hour.specs.declared.market.Market.{Market}
 use Rattle.hour.specs.Reason.{Reason, answer, outside}
-use Rattle.hour.specs.Kind.{kind_of}
 use Rattle.hour.specs.Minute.{level_from, mark_between}
 use Rattle.hour.specs.Blocks.{sound_blocks}
-use Rattle.hour.specs.Market.{FullTables, empty_market, asset_at, record_at, no_record, newcomer, with_row, blocks_of, blocks_at, kind_in, outcome, enrol_reasons, enrolled, offer_reasons, offering, offered_blocks, order_reasons, levelled, ordered_from, ordered, shed_reasons, shed}
+use Rattle.hour.specs.Market.{FullTables, empty_market, asset_at, record_at, no_record, blocks_of, blocks_at, kind_in, outcome, enrol_reasons, enrolled, offer_reasons, offering, offered_blocks, order_reasons, levelled, ordered, shed_reasons, shed}
 use Rattle.hour.specs.Trading.{OnlyRow, Enrolled, Shed, Offering, Instructed, level_of, level_at}
 use Rattle.hour.proofs.Outcomes.{after_if, after_has, accepted, untouched, NoneFits, none_fits, getD_set_has}
 use Rattle.hour.proofs.Tables.{length_table, getD_table}

@@ -1,5 +1,5 @@
 -- The rules that the blocks of an offer or a bid keep. Assumes nothing.
-use Rattle.std.specs.Prelude.{◌≡◌, ℕ, ◌<◌, ◌≤◌, Bool, true, ◌&&◌, List, length, nat_le, slice_index_or}
+use Rattle.std.specs.Prelude.{ℕ, ◌<◌, ◌≤◌, Bool, true, ◌&&◌, List, length, nat_le, slice_index_or}
 use Rattle.prices.specs.declared.block.Block.{Block}
 use Rattle.prices.specs.declared.kind.Kind.{Kind}
 use Rattle.prices.specs.Block.{no_block, size_at, price_at, ahead}

@@ -1,10 +1,8 @@
 -- The tables of a priced hour, and what meter, propose, confirm and withdraw answer and change. Assumes nothing.
-use Rattle.std.specs.Prelude.{◌≡◌, ℕ, ◌-◌, ◌≤◌, Bool, true, false, cond, not, ◌&&◌, ◌||◌, List, [], ◌∷◌, length, replicate, pos, is_some, Some, None, Option, ◌==◌, nat_le, nat_lt, slice_index_or, slice_set}
+use Rattle.std.specs.Prelude.{◌≡◌, ℕ, ◌-◌, Bool, true, false, not, ◌&&◌, ◌||◌, List, [], ◌∷◌, length, replicate, pos, is_some, Some, None, Option, ◌==◌, nat_le, nat_lt, slice_index_or, slice_set}
 use Rattle.std.specs.Option.{unwrap_or}
-use Rattle.prices.specs.declared.kind.Kind.{Kind}
 use Rattle.prices.specs.declared.asset.Asset.{Asset}
 use Rattle.prices.specs.Kind.{source, sink}
-use Rattle.hour.specs.declared.fault.Fault.{Fault}
 use Rattle.hour.specs.declared.fault.Fault.TheVariants.{RunOut, OutOfRange, NotEnrolled, EnergyOutOfRange, WrongKinds, WrongStage, WrongParty}
 use Rattle.hour.specs.declared.record.Record.{Record}
 use Rattle.hour.specs.declared.line.Amounts.{Amounts}

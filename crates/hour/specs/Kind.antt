@@ -1,5 +1,5 @@
 -- The letters of the kinds. Assumes nothing.
-use Rattle.std.specs.Prelude.{ℕ, Bool, cond, not, ◌||◌, Ok, Err, Result, ◌==◌}
+use Rattle.std.specs.Prelude.{ℕ, Bool, cond, ◌||◌, Ok, Err, Result, ◌==◌}
 use Rattle.prices.specs.declared.kind.Kind.{Kind}
 use Rattle.prices.specs.declared.kind.Kind.TheVariants.{Generator, Import, Load, Export}
 use Rattle.hour.specs.declared.fault.Fault.{Fault}

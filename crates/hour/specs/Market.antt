@@ -1,10 +1,9 @@
 -- The tables that trading fills, and what each trading call answers and changes. Assumes nothing.
-use Rattle.std.specs.Prelude.{◌≡◌, ℕ, ◌-◌, ◌≤◌, Bool, true, false, cond, not, ◌&&◌, ◌||◌, List, [], ◌∷◌, length, replicate, is_some, is_ok, Some, None, Option, Result, ◌==◌, nat_le, nat_lt, slice_index_or, slice_set}
+use Rattle.std.specs.Prelude.{◌≡◌, ℕ, ◌-◌, Bool, false, cond, not, ◌&&◌, ◌||◌, List, [], ◌∷◌, length, replicate, is_some, is_ok, Some, None, Option, Result, ◌==◌, nat_le, nat_lt, slice_index_or, slice_set}
 use Rattle.std.specs.Option.{unwrap_or}
 use Rattle.prices.specs.declared.kind.Kind.{Kind}
 use Rattle.prices.specs.declared.kind.Kind.TheVariants.{Generator}
 use Rattle.prices.specs.declared.asset.Asset.{Asset}
-use Rattle.prices.specs.declared.schedule.Schedule.{Schedule}
 use Rattle.prices.specs.declared.block.Block.{Block}
 use Rattle.prices.specs.Block.{ahead, block_list}
 use Rattle.prices.specs.Asset.{offered}
@@ -12,7 +11,7 @@ use Rattle.hour.specs.declared.fault.Fault.{Fault}
 use Rattle.hour.specs.declared.fault.Fault.TheVariants.{OutOfRange, EnrolledAlready, NotEnrolled, OfferAfterOrder, UnsoundBlocks, WrongMinute, LevelTooHigh}
 use Rattle.hour.specs.declared.record.Record.{Record}
 use Rattle.hour.specs.declared.market.Market.{Market}
-use Rattle.hour.specs.Reason.{Reason, when, answer, outside, Rising}
+use Rattle.hour.specs.Reason.{Reason, when, outside}
 use Rattle.hour.specs.Blocks.{sound_blocks}
 use Rattle.hour.specs.Kind.{stands_for_kind, kind_of}
 use Rattle.hour.specs.Minute.{levels_from, marks_between}

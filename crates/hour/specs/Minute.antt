@@ -1,5 +1,5 @@
 -- Levels and marks by minute, and how an order and a shed span change them. Assumes nothing.
-use Rattle.std.specs.Prelude.{ℕ, Bool, true, false, cond, ◌&&◌, ◌||◌, List, nat_le, nat_lt, slice_index, slice_index_or}
+use Rattle.std.specs.Prelude.{ℕ, Bool, false, cond, ◌&&◌, ◌||◌, List, nat_le, nat_lt, slice_index, slice_index_or}
 use Rattle.hour.specs.Table.{table}
 
 -- level of a minute once another level stands from a minute on

@@ -1,5 +1,5 @@
 -- What a priced hour answers when it is asked for its setters, its tally and an owner. Assumes nothing.
-use Rattle.std.specs.Prelude.{◌≡◌, ℕ, ◌+◌, ◌<◌, ◌≤◌, cond, ◌||◌, List, ◌++◌, length, drop, Some, None, Ok, Err, Option, Result, nat_lt}
+use Rattle.std.specs.Prelude.{◌≡◌, ℕ, ◌+◌, ◌≤◌, cond, ◌||◌, List, ◌++◌, length, drop, Some, None, Ok, Err, Option, Result, nat_lt}
 use Rattle.prices.specs.declared.schedule.Schedule.{Schedule}
 use Rattle.prices.specs.Setter.{setter_of, Sets, minutes_set}
 use Rattle.hour.specs.declared.fault.Fault.{Fault}

@@ -1,5 +1,5 @@
 -- The reasons for which a call is refused, and which of them counts. Assumes nothing.
-use Rattle.std.specs.Prelude.{ℕ, ◌≤◌, Bool, cond, ◌||◌, List, [], ◌∷◌, Some, None, Ok, Err, Option, Result, nat_lt}
+use Rattle.std.specs.Prelude.{ℕ, ◌≤◌, Bool, cond, ◌||◌, List, [], ◌∷◌, Ok, Err, Result, nat_lt}
 use Rattle.hour.specs.declared.fault.Fault.{Fault}
 use Rattle.hour.specs.Fault.{refusal}
 

@@ -1,4 +1,4 @@
-use Rattle.std.proofs.Common.{◌≡◌, sym, rules}
+use Rattle.std.proofs.Common.{sym, rules}
 use Rattle.margins.proofs.Ordering.{every_none, every_more, every_not}
 use Rattle.hour.specs.Blocks.{fair_at}
 use Rattle.hour.proofs.blocks.all_fair.Goals as goal

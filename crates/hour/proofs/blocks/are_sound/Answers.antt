@@ -1,8 +1,8 @@
-use Rattle.std.proofs.Common.{◌≡◌, ◌<◌, ◌≤◌, true, false, length, sym, refl, ◌∙◌, subst, inl, inr, ⊎_elim, arith, rules}
+use Rattle.std.proofs.Common.{◌≡◌, ◌≤◌, true, length, refl, ◌∙◌, subst, rules}
 use Rattle.std.proofs.lemmas.Bool.{both_ways}
 use Rattle.prices.specs.Block.{ahead}
 use Rattle.margins.specs.Order.{every, InKindsOrder}
-use Rattle.hour.specs.Blocks.{fair_at, sound_blocks}
+use Rattle.hour.specs.Blocks.{fair_at}
 use Rattle.hour.proofs.Soundness.{sound_by_order, too_few, too_many, unfair, too_large, sound_words}
 use Rattle.hour.proofs.blocks.are_sound.Goals as goal
 

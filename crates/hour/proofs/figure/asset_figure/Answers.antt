@@ -1,5 +1,4 @@
-use Rattle.std.proofs.Common.{◌≡◌, rules}
-use Rattle.hour.specs.Figure.{asset_figure}
+use Rattle.std.proofs.Common.{rules}
 use Rattle.hour.proofs.Limits.{payment_limit}
 use Rattle.hour.proofs.figure.asset_figure.Goals as goal
 

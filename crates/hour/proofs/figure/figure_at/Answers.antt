@@ -1,6 +1,6 @@
-use Rattle.std.proofs.Common.{◌≡◌, ◌≤◌, subst, arith, rules}
+use Rattle.std.proofs.Common.{◌≤◌, subst, rules}
 use Rattle.prices.specs.Block.{price_at}
-use Rattle.hour.specs.Market.{blocks_of, reading_at}
+use Rattle.hour.specs.Market.{blocks_of}
 use Rattle.hour.specs.Figure.{figure_at}
 use Rattle.hour.proofs.figure.figure_at.Goals as goal
 

@@ -1,4 +1,4 @@
-use Rattle.std.proofs.Common.{arith, rules}
+use Rattle.std.proofs.Common.{rules}
 use Rattle.prices.proofs.Ranges.{total_more, total_none}
 use Rattle.hour.specs.Figure.{matched_kwh}
 use Rattle.hour.proofs.figure.matched_kwh.Goals as goal

@@ -1,6 +1,6 @@
-use Rattle.std.proofs.Common.{◌≡◌, ℕ, ◌+◌, true, false, List, length, sym, refl, ap, ◌∙◌, arith, rules}
+use Rattle.std.proofs.Common.{◌≡◌, ◌+◌, true, false, length, sym, refl, ap, ◌∙◌, arith}
 use Rattle.hour.specs.Figure.{listed}
-use Rattle.hour.proofs.Listings.{Written, listing_none, written_yes, written_no, written_at}
+use Rattle.hour.proofs.Listings.{listing_none, written_yes, written_no, written_at}
 use Rattle.hour.proofs.listing.list_participants.Goals as goal
 use Rattle.hour.proofs.listing.list_participants.Goals.{then-is_listed, else-is_listed}
 

@@ -1,10 +1,9 @@
-use Rattle.std.proofs.Common.{◌≡◌, ◌+◌, ◌-◌, ◌≤◌, true, false, ◌++◌, length, take, drop, is_some, None, Ok, sym, ap, ◌∙◌, subst, arith, rules}
+use Rattle.std.proofs.Common.{◌≡◌, ◌-◌, ◌≤◌, false, ◌++◌, length, take, drop, is_some, None, Ok, sym, ap, ◌∙◌, subst, arith}
 use Rattle.std.proofs.lemmas.Result.{err_from_is_err_and}
 use Rattle.std.proofs.lemmas.Bool.{le-leb, lt-leb}
-use Rattle.prices.specs.Schedule.{pool_price}
 use Rattle.hour.specs.Listing.{listing}
 use Rattle.hour.specs.Amounts.{amounts_answer}
-use Rattle.hour.specs.Line.{new_amounts, lines_of, first_beyond}
+use Rattle.hour.specs.Line.{lines_of, first_beyond}
 use Rattle.hour.specs.Run.{price_of, first_unread, drawn_lines}
 use Rattle.hour.proofs.Limits.{pool_limit}
 use Rattle.hour.proofs.Outcomes.{passed}

@@ -1,4 +1,4 @@
-use Rattle.std.proofs.Common.{◌≡◌, ◌-◌, ◌≤◌, length, sym, ap, rules}
+use Rattle.std.proofs.Common.{◌-◌, ◌≤◌, length, sym, ap, rules}
 use Rattle.std.proofs.lemmas.List.{get_or_past}
 use Rattle.hour.specs.Market.{no_record}
 use Rattle.hour.proofs.book.Book.owner_of.Goals as goal

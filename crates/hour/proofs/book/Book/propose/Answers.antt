@@ -1,11 +1,8 @@
 use Rattle.std.proofs.lemmas.Result.{err_from_is_err_and}
-use Rattle.std.proofs.Common.{◌≡◌, ◌-◌, true, false, not, is_some, Ok, Err, sym, refl, ap, ◌∙◌, arith, rules}
-use Rattle.std.proofs.lemmas.Bool.Decides.{nat_tests}
-use Rattle.hour.specs.declared.instruction.Event.TheVariants.{Propose}
+use Rattle.std.proofs.Common.{◌≡◌, ◌-◌, true, false, is_some, Ok, Err, refl, ap, ◌∙◌, rules}
 use Rattle.hour.specs.Reason.{outside}
 use Rattle.hour.specs.Market.{missing}
-use Rattle.hour.specs.Instruction.{next_stage}
-use Rattle.hour.specs.Book.{instruction_at, terms, propose_reasons}
+use Rattle.hour.specs.Book.{propose_reasons}
 use Rattle.hour.proofs.Outcomes.{passed, passed_value, refused_at, failed}
 use Rattle.hour.proofs.book.Book.propose.Goals as goal
 

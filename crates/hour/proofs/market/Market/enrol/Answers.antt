@@ -1,5 +1,5 @@
 use Rattle.std.proofs.lemmas.Result.{err_from_is_err_and}
-use Rattle.std.proofs.Common.{◌≡◌, ℕ, ◌-◌, Bool, true, false, cond, not, get_or, is_some, None, Ok, Err, Result, sym, refl, ap, ◌∙◌, arith, rules}
+use Rattle.std.proofs.Common.{◌≡◌, ℕ, ◌-◌, Bool, true, false, cond, not, is_some, None, Ok, Err, Result, sym, refl, ap, ◌∙◌, arith}
 use Rattle.hour.specs.Kind.{stands_for_kind, kind_of}
 use Rattle.hour.specs.Reason.{outside}
 use Rattle.hour.specs.Market.{asset_at, with_row, newcomer, enrol_reasons}

@@ -1,4 +1,4 @@
-use Rattle.std.proofs.Common.{◌≡◌, ℕ, zero, suc, true, List, get_or, replicate, Option, sym, refl, ◌∙◌, subst}
+use Rattle.std.proofs.Common.{◌≡◌, ℕ, zero, suc, true, List, get_or, replicate, Option, sym, refl, subst}
 use Rattle.prices.specs.declared.asset.Asset.{Asset}
 use Rattle.hour.specs.declared.instruction.Instruction.TheVariants.{Free}
 use Rattle.hour.specs.Book.{new_book, joins}
@@ -19,4 +19,5 @@ invariant_of-result c =
       (c.requires.tables.0, c.requires.tables.1, c.requires.tables.2, refl, refl),
       (c.requires.offers, (λ k. unread_small _ (c.requires.unread k), (λ k. all_free m.schedule.assets 64 k, (none_within 32, (λ k item. nothing_within item, (refl, tt)))))),
     ) in
-    subst Kept (sym c.new.ensures) kept
+    let after : Kept c.new.result = subst Kept (sym c.new.ensures) kept in
+    record { tables = after.0; offers = after.1.0; readings = after.1.1.0; joined = after.1.1.1.0; posted = after.1.1.1.1.0; drawn = after.1.1.1.1.1.0; whole = after.1.1.1.1.1.1.0 }

@@ -1,4 +1,4 @@
-use Rattle.std.proofs.Common.{◌≡◌, ℕ, ◌<◌, ◌++◌, length, get_or, drop}
+use Rattle.std.proofs.Common.{◌≡◌, ℕ, ◌<◌, get_or, drop}
 use Rattle.hour.proofs.priced.PricedHour.tally.Given as goal
 
 abbrev pub invariant-loop-place : goal.invariant-loop-place

@@ -1,18 +1,18 @@
 -- An hour's tables are those that the ledger gives, after every list of calls. Assumes nothing.
-use Rattle.std.proofs.Common.{◌≡◌, ℕ, ◌+◌, Bool, true, false, cond, not, ◌&&◌, List, [], ◌∷◌, ◌++◌, length, is_some, is_ok, Some, None, Ok, Err, Option, Result, sym, refl, ap, ◌∙◌, subst}
-use Rattle.std.specs.Option.{option_map, option_to_list}
+use Rattle.std.proofs.Common.{◌≡◌, ℕ, ◌+◌, Bool, true, false, cond, not, ◌&&◌, List, [], ◌∷◌, ◌++◌, length, is_ok, Some, None, Ok, Err, Option, Result, sym, refl, ap, ◌∙◌, subst}
+use Rattle.std.specs.Option.{option_to_list}
 use Rattle.hour.specs.declared.fault.Fault.{Fault}
 use Rattle.hour.specs.declared.instruction.Instruction.{Instruction}
 use Rattle.hour.specs.declared.slip.Slip.{Slip}
 use Rattle.hour.specs.declared.market.Market.{Market}
 use Rattle.hour.specs.declared.book.Book.{Book}
-use Rattle.hour.specs.Reason.{Reason, first_fitting, answer}
-use Rattle.hour.specs.Market.{outcome, empty_market, enrol_reasons, enrolled, offer_reasons, offered_blocks, order_reasons, ordered, shed_reasons, shed}
-use Rattle.hour.specs.Book.{new_book, meter_reasons, metered, propose_reasons, proposed, confirm_reasons, confirmed, withdraw_reasons, withdrawn}
-use Rattle.hour.specs.Run.{draw_reasons, slip_of, drawn, slip_fits, out_amounts, settled}
+use Rattle.hour.specs.Reason.{Reason, first_fitting}
+use Rattle.hour.specs.Market.{outcome, enrol_reasons, offer_reasons, order_reasons, shed_reasons}
+use Rattle.hour.specs.Book.{meter_reasons, metered, propose_reasons, proposed, confirm_reasons, confirmed, withdraw_reasons, withdrawn}
+use Rattle.hour.specs.Run.{draw_reasons, slip_of, slip_fits, out_amounts, settled}
 use Rattle.ledger.specs.Trade.{Trade, enrol, offer, order, shedding, accepted, traded, market_of, LivedTrade, TradeMade, Traded, trades_of}
 use Rattle.ledger.specs.Call.{Call, meter, propose, confirm, withdraw, draw, post, void, Answer, Lived, Made, Leads, calls_of}
-use Rattle.ledger.specs.Ledger.{Draw, Ledger, amounts_posted, run_of, book_of, with_tables, with_draw, with_posted, entered, ledger_of}
+use Rattle.ledger.specs.Ledger.{Draw, Ledger, book_of, with_tables, with_draw, with_posted, entered, ledger_of}
 
 -- a call is answered by Ok exactly if no reason fits
 ok_accepted : {A : Type 0} (reasons : List Reason) (x : A) → is_ok (first_fitting reasons (Ok x)) ≡ accepted reasons

@@ -1,5 +1,5 @@
 -- What is recorded of the posted draws and of the draw that is out, over every list of calls. Assumes nothing.
-use Rattle.std.proofs.Common.{◌≡◌, ℕ, ◌+◌, ◌<◌, ◌≤◌, Bool, true, false, cond, not, ◌&&◌, ◌||◌, eqb, ltb, List, [], ◌∷◌, ◌++◌, map, length, take, drop, is_ok, Some, None, Ok, Err, sum, Option, Result, sym, refl, ap, ◌∙◌, subst, arith}
+use Rattle.std.proofs.Common.{◌≡◌, ℕ, ◌+◌, ◌<◌, ◌≤◌, Bool, true, false, cond, not, ◌&&◌, ◌||◌, eqb, ltb, List, [], ◌∷◌, ◌++◌, length, take, drop, is_ok, Some, None, Ok, Err, sum, Option, Result, refl, ap, ◌∙◌, subst, arith}
 use Rattle.std.proofs.lemmas.List.{length-map, take_at}
 use Rattle.std.proofs.lemmas.Bool.{cond-true, cond-false, and_right, and_from, eq-eqb, ne_eqb, both_ways}
 use Rattle.std.proofs.lemmas.Bool.Decides.{nat_tests}
@@ -7,7 +7,6 @@ use Rattle.std.specs.Option.{option_to_list}
 use Rattle.splitting.specs.Rule.{Lawful}
 use Rattle.splitting.specs.Weights.{Limited, Accepted}
 use Rattle.hour.specs.declared.fault.Fault.{Fault}
-use Rattle.hour.specs.declared.instruction.Instruction.{Instruction}
 use Rattle.hour.specs.declared.line.Amounts.{Amounts}
 use Rattle.hour.specs.declared.line.Line.{Line}
 use Rattle.hour.specs.declared.slip.Slip.{Slip}
@@ -16,17 +15,16 @@ use Rattle.hour.specs.declared.book.Book.{Book}
 use Rattle.hour.specs.declared.charge.Charge.{Charge}
 use Rattle.hour.specs.declared.charge.Charge.TheVariants.{Supply, Load}
 use Rattle.hour.specs.Reason.{Reason, first_fitting}
-use Rattle.hour.specs.Market.{outcome}
 use Rattle.hour.specs.Listing.{listing}
-use Rattle.hour.specs.Charge.{whole_charge, weights, stranded, over_limit}
+use Rattle.hour.specs.Charge.{whole_charge, weights}
 use Rattle.hour.specs.Line.{line_of, lines_of}
-use Rattle.hour.specs.Run.{price_of, drawn_amounts, drawn_lines, draw_reasons, slip_of, drawn, slip_fits, Drawing}
+use Rattle.hour.specs.Run.{price_of, drawn_lines, draw_reasons, slip_of, Drawing}
 use Rattle.hour.proofs.Outcomes.{NoneFits}
 use Rattle.ledger.specs.Trade.{accepted}
 use Rattle.ledger.specs.Call.{Call, meter, propose, confirm, withdraw, draw, post, void, Answer, Lived, Made, Leads, calls_of}
-use Rattle.ledger.specs.Ledger.{Draw, Ledger, amounts_drawn, amounts_posted, book_of, with_tables, with_draw, with_posted, entered, ledger_of}
+use Rattle.ledger.specs.Ledger.{Draw, Ledger, amounts_drawn, amounts_posted, book_of, with_draw, entered, ledger_of}
 use Rattle.ledger.specs.Law.{is_run, left_here, left_by, run_lines}
-use Rattle.ledger.proofs.Agreement.{made_of, book_agrees}
+use Rattle.ledger.proofs.Agreement.{book_agrees}
 use Rattle.ledger.proofs.Soundness.{SoundMarket, SoundBook, book_sound}
 
 -- a draw on record: its number, its lines, sound tables, and charges that a rule accepts

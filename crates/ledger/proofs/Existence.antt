@@ -1,5 +1,5 @@
 -- Every list of calls has a history. Assumes nothing.
-use Rattle.std.proofs.Common.{◌≡◌, ℕ, ◌-◌, Bool, true, false, cond, List, [], ◌∷◌, length, replicate, Result, sym, refl, ap, ◌∙◌, subst}
+use Rattle.std.proofs.Common.{◌≡◌, ℕ, Bool, true, cond, List, [], ◌∷◌, length, Result, refl, ap, ◌∙◌, subst}
 use Rattle.std.proofs.lemmas.List.{length-set}
 use Rattle.std.proofs.lemmas.Bool.{cond_both}
 use Rattle.hour.specs.declared.fault.Fault.{Fault}
@@ -9,19 +9,19 @@ use Rattle.hour.specs.declared.market.Market.{Market}
 use Rattle.hour.specs.declared.book.Book.{Book}
 use Rattle.hour.specs.Reason.{answer}
 use Rattle.hour.specs.Market.{outcome, empty_market, enrol_reasons, enrolled, offer_reasons, offered_blocks, order_reasons, ordered, shed_reasons, shed}
-use Rattle.hour.specs.Book.{FullBook, new_book, instruction_at, joins, meter_reasons, metered, propose_reasons, proposed, confirm_reasons, confirmed, withdraw_reasons, withdrawn}
+use Rattle.hour.specs.Book.{FullBook, instruction_at, joins, meter_reasons, metered, propose_reasons, proposed, confirm_reasons, confirmed, withdraw_reasons, withdrawn}
 use Rattle.hour.specs.Line.{new_amounts}
 use Rattle.hour.specs.Run.{draw_answer, drawn, written_lines, slip_fits, slip_answer, out_amounts, settled}
 use Rattle.hour.proofs.TradeSteps.{TradeKept, empty_kept, enrol_kept, enrol_words, offer_kept, offer_words, order_kept, order_words, shed_kept, shed_words}
 use Rattle.hour.proofs.PricedSteps.{meter_words, propose_words, confirm_words, withdraw_words}
 use Rattle.hour.proofs.RunSteps.{draw_words, post_words, void_words}
 use Rattle.hour.proofs.Tables.{length_table}
-use Rattle.ledger.specs.Trade.{Trade, enrol, offer, order, shedding, accepted, LivedTrade, TradeMade, Traded, trades_of}
+use Rattle.ledger.specs.Trade.{Trade, enrol, offer, order, shedding, LivedTrade, TradeMade, Traded, trades_of}
 use Rattle.ledger.specs.Call.{Call, meter, propose, confirm, withdraw, draw, post, void, Answer, Lived, Made, Leads, calls_of}
-use Rattle.ledger.specs.Ledger.{Draw, Ledger, amounts_posted, book_of, with_tables, entered, ledger_of}
-use Rattle.ledger.specs.Law.{CameBy, History}
+use Rattle.ledger.specs.Ledger.{Draw, Ledger, amounts_posted, book_of, entered, ledger_of}
+use Rattle.ledger.specs.Law.{History}
 use Rattle.ledger.proofs.Agreement.{call_step}
-use Rattle.ledger.proofs.Soundness.{SoundMarket, SoundBook, market_sound, book_sound}
+use Rattle.ledger.proofs.Soundness.{SoundMarket, market_sound, book_sound}
 
 -- a trading call on sound tables: its answer, and the tables after it
 record NextTrade (trade : Trade) (before : Market) : Type 0 where

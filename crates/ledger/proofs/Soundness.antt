@@ -1,10 +1,9 @@
 -- What every list of calls keeps true of the tables: owners in range, joined instructions, the same participants listed. Assumes nothing.
-use Rattle.std.proofs.Common.{◌≡◌, ℕ, zero, suc, ◌+◌, ◌-◌, ◌<◌, ◌≤◌, Bool, true, false, cond, not, ◌&&◌, eqb, ltb, List, [], ◌∷◌, length, get_or, set, replicate, is_some, is_ok, Some, None, Ok, Option, Result, unwrap_or, sym, refl, ap, ◌∙◌, subst, inl, inr, arith}
+use Rattle.std.proofs.Common.{◌≡◌, ℕ, zero, suc, ◌-◌, ◌≤◌, true, false, cond, ◌&&◌, eqb, ltb, List, [], ◌∷◌, length, get_or, replicate, is_some, is_ok, None, Ok, Option, Result, sym, refl, ap, ◌∙◌, subst, inl, inr, arith}
 use Rattle.std.proofs.lemmas.List.{length-set}
-use Rattle.std.proofs.lemmas.Bool.{cases_eq, cases_Bool, cond-true, cond-false, cond_both, not-false, both_ways}
+use Rattle.std.proofs.lemmas.Bool.{cases_eq, cases_Bool, cond-false, cond_both, not-false, both_ways}
 use Rattle.std.proofs.lemmas.Bool.Decides.{nat_tests}
 use Rattle.prices.specs.declared.asset.Asset.{Asset}
-use Rattle.prices.specs.Range.{total, count}
 use Rattle.prices.proofs.Ranges.{total_same}
 use Rattle.hour.specs.declared.fault.Fault.{Fault}
 use Rattle.hour.specs.declared.market.Market.{Market}
@@ -12,16 +11,13 @@ use Rattle.hour.specs.declared.book.Book.{Book}
 use Rattle.hour.specs.declared.slip.Slip.{Slip}
 use Rattle.hour.specs.declared.instruction.Instruction.{Instruction}
 use Rattle.hour.specs.declared.instruction.Instruction.TheVariants.{Free}
-use Rattle.hour.specs.declared.instruction.Event.{Event}
-use Rattle.hour.specs.declared.instruction.Event.TheVariants.{Propose, Confirm, Withdraw}
 use Rattle.hour.specs.Reason.{Reason, answer, outside}
-use Rattle.hour.specs.Instruction.{next_stage}
-use Rattle.hour.specs.Market.{asset_at, record_at, outcome, empty_market, no_record, enrol_reasons, enrolled, offer_reasons, offered_blocks, order_reasons, ordered, shed_reasons, shed}
-use Rattle.hour.specs.Trading.{OnlyRow, Enrolled, Offering, Instructed, Shed}
-use Rattle.hour.specs.Book.{new_book, instruction_at, joins, joined_by, terms, with_instruction, propose_reasons, proposed, confirm_reasons, confirmed, withdraw_reasons, withdrawn}
-use Rattle.hour.specs.Priced.{Metering, Proposal, Confirmation, Withdrawal}
+use Rattle.hour.specs.Market.{asset_at, record_at, outcome, no_record, enrol_reasons, enrolled, offer_reasons, offered_blocks, order_reasons, ordered}
+use Rattle.hour.specs.Trading.{OnlyRow}
+use Rattle.hour.specs.Book.{instruction_at, joins, terms, with_instruction, propose_reasons, proposed, confirmed, withdrawn}
+use Rattle.hour.specs.Priced.{Metering}
 use Rattle.hour.specs.Figure.{owned, listed}
-use Rattle.hour.specs.Run.{slip_fits, Drawing, Posting, Voiding}
+use Rattle.hour.specs.Run.{slip_fits}
 use Rattle.hour.proofs.Outcomes.{after_if, after_has, NoneFits, none_fits, getD_set_has}
 use Rattle.hour.proofs.Joining.{proposed_joins, proposed_if, still_joined, freed}
 use Rattle.ledger.specs.Trade.{Trade, enrol, offer, order, shedding, LivedTrade, TradeMade, Traded}

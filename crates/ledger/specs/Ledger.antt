@@ -1,5 +1,5 @@
 -- The ledger of an hour: kept from the calls' arguments alone, by the rules. Assumes nothing.
-use Rattle.std.specs.Prelude.{ℕ, ◌+◌, Bool, cond, List, [], ◌∷◌, ◌++◌, length, replicate, Some, None, Option}
+use Rattle.std.specs.Prelude.{ℕ, ◌+◌, cond, List, [], ◌∷◌, ◌++◌, length, replicate, Some, None, Option}
 use Rattle.std.specs.Option.{option_map, option_to_list}
 use Rattle.splitting.specs.Rule.{Lawful}
 use Rattle.hour.specs.declared.instruction.Instruction.{Instruction}

@@ -1,5 +1,5 @@
 -- Lists of trading calls: the market that they leave by the rules, and what a client lives through. Assumes nothing.
-use Rattle.std.specs.Prelude.{◌≡◌, ℕ, Bool, true, cond, not, ◌&&◌, List, [], ◌∷◌, map, Result}
+use Rattle.std.specs.Prelude.{◌≡◌, ℕ, Bool, true, cond, not, ◌&&◌, List, [], ◌∷◌, Result}
 use Rattle.prices.specs.declared.block.Block.{Block}
 use Rattle.hour.specs.declared.fault.Fault.{Fault}
 use Rattle.hour.specs.declared.market.Market.{Market}

@@ -1,11 +1,11 @@
 -- A line is read as an item exactly when it is that item's writing. Assumes nothing.
-use Rattle.std.proofs.Common.{◌≡◌, ℕ, ◌+◌, ◌-◌, ◌≤◌, true, ◌⊎◌, List, ◌++◌, length, drop, Ok, Err, Option, Result, sym, refl, ap, ◌∙◌, subst, ⊎_elim, arith}
+use Rattle.std.proofs.Common.{◌≡◌, ℕ, ◌+◌, List, ◌++◌, length, drop, Ok, Err, Option, Result, sym, refl, ap, ◌∙◌, ⊎_elim, arith}
 use Rattle.std.specs.List.{between}
 use Rattle.std.proofs.lemmas.List.{append_assoc}
 use Rattle.std.proofs.lemmas.List.Edits.{length-between}
 use Rattle.file.specs.Item.{Sound, key_of, fields, writing}
-use Rattle.file.specs.Key.{follows, key_text, NoKey, FoundKey}
-use Rattle.file.specs.Line.{Line, ReadLine, BrokenFields, ReadsLine, Exactly}
+use Rattle.file.specs.Key.{key_text, NoKey}
+use Rattle.file.specs.Line.{BrokenFields, ReadsLine, Exactly}
 use Rattle.file.specs.Place.{Stands}
 use Rattle.file.specs.Row.{row}
 use Rattle.file.specs.declared.body.Read.{Read}

@@ -1,8 +1,8 @@
 -- A line as its key and what stands behind it. Assumes nothing.
-use Rattle.std.proofs.Common.{◌≡◌, ℕ, ◌+◌, ◌-◌, ◌≤◌, true, List, ◌++◌, length, Option, sym, refl, ap, ◌∙◌, subst, arith}
+use Rattle.std.proofs.Common.{◌≡◌, ℕ, ◌+◌, ◌-◌, true, List, ◌++◌, length, Option, sym, refl, ap, ◌∙◌, subst, arith}
 use Rattle.std.proofs.lemmas.List.{append_assoc, append_cancel_left}
 use Rattle.file.specs.Body.{Body, ReadBody}
-use Rattle.file.specs.Item.{key_of, fields}
+use Rattle.file.specs.Item.{fields}
 use Rattle.file.specs.Key.{follows, key_text, FoundKey}
 use Rattle.file.specs.Line.{Line, ReadLine, BrokenFields}
 use Rattle.file.specs.Place.{Stands, BreaksAt}

@@ -1,10 +1,10 @@
 -- Where the name of a rule breaks. Assumes nothing.
-use Rattle.std.proofs.Common.{◌≡◌, ℕ, suc, ◌+◌, ◌-◌, ◌<◌, ◌≤◌, List, [], ◌∷◌, ◌++◌, length, get_or, take, drop, sym, refl, ap, ◌∙◌, subst, arith}
+use Rattle.std.proofs.Common.{◌≡◌, ℕ, ◌+◌, ◌<◌, ◌≤◌, List, [], ◌∷◌, ◌++◌, length, get_or, take, drop, sym, refl, ap, ◌∙◌, subst, arith}
 use Rattle.std.specs.List.{between}
 use Rattle.std.proofs.lemmas.List.{take-append-drop, drop_more, length-drop, get_or_at, length-take-le, append-nil, length-append}
 use Rattle.file.specs.Item.{rule_text}
 use Rattle.file.specs.Literal.{Agrees}
-use Rattle.file.specs.Place.{Stands, Breaks, BreaksAt}
+use Rattle.file.specs.Place.{Breaks, BreaksAt}
 use Rattle.file.specs.Row.{row}
 use Rattle.file.specs.Rule.{OnlyName}
 use Rattle.file.specs.declared.item.RuleName.{RuleName}

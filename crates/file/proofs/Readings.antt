@@ -1,12 +1,11 @@
 -- Each sound item has a writing of its own: what stands at a place is the writing of one item at most. Assumes nothing.
-use Rattle.std.proofs.Common.{◌≡◌, ℕ, zero, suc, ◌+◌, ◌-◌, ◌<◌, ◌≤◌, Bool, true, false, cond, eqb, List, [], ◌∷◌, ◌++◌, map, length, get_or, take, drop, replicate, decimal, sym, refl, ap, ◌∙◌, subst, arith}
+use Rattle.std.proofs.Common.{◌≡◌, ℕ, ◌-◌, cond, eqb, List, [], ◌∷◌, ◌++◌, map, length, get_or, take, drop, replicate, decimal, sym, refl, ap, ◌∙◌, subst, arith}
 use Rattle.std.proofs.lemmas.Fmt.{digits_value-decimal}
 use Rattle.std.proofs.lemmas.List.{append_assoc, append_cancel_left, length-map, length-take-le}
-use Rattle.std.proofs.lemmas.Bool.{cond-true, cond-false, eq-eqb, ne_eqb}
+use Rattle.std.proofs.lemmas.Bool.{cond-false, ne_eqb}
 use Rattle.prices.specs.Block.{no_block}
 use Rattle.prices.specs.declared.block.Block.{Block}
-use Rattle.file.specs.Field.{Capital}
-use Rattle.file.specs.Item.{Sound, SoundBlocks, BlockWords, key_of, fields, writing, block_text, rule_text}
+use Rattle.file.specs.Item.{Sound, BlockWords, key_of, fields, writing, block_text, rule_text}
 use Rattle.file.specs.Key.{key_text}
 use Rattle.file.specs.Number.{Word}
 use Rattle.file.specs.Row.{row, ending}

@@ -1,14 +1,14 @@
 -- Rows of fields: how the first field breaks, and how a row breaks behind its first field. Assumes nothing.
-use Rattle.std.proofs.Common.{◌≡◌, ℕ, zero, suc, ◌+◌, ◌-◌, ◌^◌, ◌<◌, ◌≤◌, true, ◌⊎◌, List, [], ◌∷◌, ◌++◌, length, get_or, drop, decimal, sym, refl, ap, ◌∙◌, subst, inl, inr, ⊎_elim, arith}
+use Rattle.std.proofs.Common.{◌≡◌, ℕ, suc, ◌<◌, true, List, [], ◌∷◌, ◌++◌, length, get_or, decimal, sym, refl, ap, ◌∙◌, subst, arith}
 use Rattle.std.specs.Int.{IsInRange}
 use Rattle.std.proofs.lemmas.Bool.Decides.{nat_tests}
-use Rattle.std.proofs.lemmas.List.{append_assoc, append-nil}
+use Rattle.std.proofs.lemmas.List.{append_assoc}
 use Rattle.file.specs.Number.{Word}
-use Rattle.file.specs.Place.{Stands, Breaks, BreaksAt}
+use Rattle.file.specs.Place.{Stands, BreaksAt}
 use Rattle.file.specs.Field.{allowed, NumberField, LetterField, Capital}
 use Rattle.file.specs.Row.{row, ending}
 use Rattle.file.specs.declared.field.End.{End}
-use Rattle.file.specs.declared.field.End.TheVariants.{Colon, Comma, Line, CommaOrLine}
+use Rattle.file.specs.declared.field.End.TheVariants.{Comma, Line}
 use Rattle.file.proofs.Numbers.{digit_in}
 use Rattle.file.proofs.Places.{first_breaks_at, later_breaks_at, same_form_breaks, stands_joined}
 

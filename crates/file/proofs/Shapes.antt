@@ -1,12 +1,11 @@
 -- The fields of each key's lines, as rows. Assumes nothing.
-use Rattle.std.proofs.Common.{◌≡◌, ℕ, zero, suc, ◌+◌, ◌-◌, ◌^◌, ◌<◌, ◌≤◌, true, ◌⊎◌, List, [], ◌∷◌, ◌++◌, map, length, take, replicate, IsErrAnd, decimal, Result, sym, refl, ap, ◌∙◌, subst, inl, inr, ⊎_elim, arith}
-use Rattle.std.proofs.lemmas.Bool.Decides.{nat_tests}
-use Rattle.std.proofs.lemmas.List.{take_at, length-map, length-append, length-take-le, length-replicate}
+use Rattle.std.proofs.Common.{◌≡◌, ℕ, ◌-◌, ◌<◌, ◌≤◌, true, List, [], ◌∷◌, ◌++◌, map, length, take, replicate, IsErrAnd, decimal, Result, sym, refl, ap, ◌∙◌, subst, arith}
+use Rattle.std.proofs.lemmas.List.{take_at, length-append, length-take-le, length-replicate}
 use Rattle.prices.specs.Block.{no_block}
 use Rattle.prices.specs.declared.block.Block.{Block}
 use Rattle.file.specs.Number.{Word}
 use Rattle.file.specs.Place.{Stands, BreaksAt}
-use Rattle.file.specs.Field.{allowed, NumberField, LetterField, Capital, ReadNumber, ReadLetter}
+use Rattle.file.specs.Field.{allowed, NumberField, LetterField, ReadNumber, ReadLetter}
 use Rattle.file.specs.Item.{Sound, SoundBlocks, BlockWords, key_of, fields, block_text, rule_text}
 use Rattle.file.specs.declared.body.Read.{Read}
 use Rattle.file.specs.Body.{Body, ReadBody, ReadsBody}
@@ -17,11 +16,10 @@ use Rattle.file.specs.declared.field.Field.{Field}
 use Rattle.file.specs.declared.item.Item.{Item}
 use Rattle.file.specs.declared.item.Item.TheVariants.{Hour, Asset, Offer, Order, Shed, Meter, Instruct, Rule}
 use Rattle.file.specs.declared.item.RuleName.{RuleName}
-use Rattle.file.specs.declared.item.RuleName.TheVariants.{Largest, Running}
 use Rattle.file.specs.declared.key.Key.{Key}
 use Rattle.file.specs.declared.key.Key.TheVariants as key
 use Rattle.file.proofs.Places.{same_form_breaks, err_passed}
-use Rattle.file.proofs.Rows.{RowForm, Cons, Part, Calls, NumberText, LetterText, AllOf, Clean, field_first, field_later, ending_some, clean_number, clean_letter, number_part, letter_part, comma_end, line_end, row_stands}
+use Rattle.file.proofs.Rows.{RowForm, Cons, Calls, NumberText, LetterText, field_first, field_later, ending_some, clean_number, clean_letter, number_part, letter_part, comma_end, line_end, row_stands}
 
 -- no field, or a number or a letter and then further fields
 abbrev pub End_of_row : List (List ℕ) → Type 0

@@ -1,5 +1,5 @@
 -- The keys of a file, how they are written, and the order of their lines. Assumes nothing.
-use Rattle.std.specs.Prelude.{◌≡◌, ℕ, ◌+◌, Bool, true, false, ◌&&◌, List, length, Some, None, codes, Option, ◌==◌, nat_le, nat_lt}
+use Rattle.std.specs.Prelude.{◌≡◌, ℕ, ◌+◌, Bool, true, ◌&&◌, List, length, Some, None, codes, Option, ◌==◌, nat_le, nat_lt}
 use Rattle.file.specs.Place.{Stands}
 use Rattle.file.specs.declared.key.Key.{Key}
 use Rattle.file.specs.declared.key.Key.TheVariants.{Hour, Asset, Offer, Order, Shed, Meter, Instruct, Rule}

@@ -1,5 +1,5 @@
 -- How far a file agrees with a text. Assumes nothing.
-use Rattle.std.specs.Prelude.{◌≡◌, ℕ, ◌+◌, ◌<◌, ◌≤◌, List, length, take, ◌≢◌, slice_index}
+use Rattle.std.specs.Prelude.{ℕ, ◌+◌, ◌<◌, ◌≤◌, List, length, take, ◌≢◌, slice_index}
 use Rattle.file.specs.Place.{Stands}
 
 -- the file has this many bytes of a text at a place, and no more

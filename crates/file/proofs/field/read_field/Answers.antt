@@ -1,4 +1,4 @@
-use Rattle.std.proofs.Common.{◌≡◌, arith, rules}
+use Rattle.std.proofs.Common.{arith, rules}
 use Rattle.std.proofs.lemmas.Bool.{both_ways}
 use Rattle.file.proofs.Fields.{field_stands, field_breaks, no_end}
 use Rattle.file.proofs.field.read_field.Goals as goal

@@ -1,4 +1,4 @@
-use Rattle.std.proofs.Common.{◌≡◌, ℕ, ◌+◌, ◌/◌, ◌^◌, ◌<◌, length, decimal, sym, ap, ◌∙◌, arith}
+use Rattle.std.proofs.Common.{◌≡◌, ◌+◌, length, decimal, sym, arith}
 use Rattle.file.proofs.Writes.{digits_few, digits_one, digits_more}
 use Rattle.file.proofs.figure.+digit_count.Goals as goal
 

@@ -1,4 +1,4 @@
-use Rattle.std.proofs.Common.{◌≡◌, ℕ, ◌+◌, List, [], ◌∷◌, ◌++◌, get_or, take, sym, subst, arith, rules}
+use Rattle.std.proofs.Common.{ℕ, ◌+◌, List, get_or, take, sym, subst, arith, rules}
 use Rattle.std.proofs.lemmas.List.{take_more}
 use Rattle.file.specs.Place.{Stands}
 use Rattle.file.proofs.Places.{nothing_stands, stands_more}

@@ -1,4 +1,4 @@
-use Rattle.std.proofs.Common.{◌≡◌, ◌<◌, length, arith}
+use Rattle.std.proofs.Common.{◌<◌, length, arith}
 use Rattle.file.proofs.Numbers.{started, one_digit_more, no_longer}
 use Rattle.file.proofs.number.read_number.Goals as goal
 

@@ -1,5 +1,5 @@
-use Rattle.std.proofs.Common.{◌≡◌, subst}
-use Rattle.file.specs.Offer.{BlockField, BlockRow, ReadBlock, ReadBlocks, block_end}
+use Rattle.std.proofs.Common.{subst}
+use Rattle.file.specs.Offer.{BlockRow, ReadBlock, ReadBlocks}
 use Rattle.file.specs.Place.{BreaksAt}
 use Rattle.file.specs.declared.field.End.{End}
 use Rattle.file.proofs.BlockRows.{reading_breaks, reading_more, reading_done, block_row}

@@ -1,4 +1,4 @@
-use Rattle.std.proofs.Common.{◌<◌, map, length, take, sym, refl, ◌∙◌, arith}
+use Rattle.std.proofs.Common.{map, take, refl}
 use Rattle.file.specs.Item.{block_text}
 use Rattle.file.specs.declared.key.Key.TheVariants.{Offer}
 use Rattle.file.proofs.BlockRows.{asset_breaks, blocks_break, some_sound}

@@ -1,4 +1,4 @@
-use Rattle.std.proofs.Common.{◌≡◌, ℕ, List, [], map, length, drop, ap, arith}
+use Rattle.std.proofs.Common.{◌≡◌, List, [], map, length, drop, ap, arith}
 use Rattle.std.proofs.lemmas.List.{drop_all}
 use Rattle.file.specs.Figure.{figure_text}
 use Rattle.file.specs.Row.{row}

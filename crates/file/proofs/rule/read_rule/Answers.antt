@@ -1,4 +1,4 @@
-use Rattle.std.proofs.Common.{◌≡◌, ℕ, ◌<◌, List, [], ◌∷◌, ◌++◌, length, sym, ap, ◌∙◌, subst, arith}
+use Rattle.std.proofs.Common.{ℕ, ◌<◌, List, length, subst}
 use Rattle.file.specs.Literal.{Agrees}
 use Rattle.file.specs.declared.key.Key.TheVariants.{Rule}
 use Rattle.file.proofs.Names.{name_breaks}

@@ -1,4 +1,4 @@
-use Rattle.std.proofs.Common.{◌≡◌, ℕ, ◌+◌, ◌∷◌, length, pos, nat_abs, ◌≤ℤ◌, ◌<ℤ◌, decimal, sym, ap, ◌∙◌, arith, rules}
+use Rattle.std.proofs.Common.{◌≡◌, ℕ, ◌∷◌, length, pos, nat_abs, ◌≤ℤ◌, ◌<ℤ◌, decimal, sym, ap, ◌∙◌, arith, rules}
 use Rattle.std.proofs.lemmas.Int.{to_z-of_z}
 use Rattle.file.specs.Figure.{figure_text}
 use Rattle.file.proofs.Writes.{digits_few_signed, negative_text, positive_text}

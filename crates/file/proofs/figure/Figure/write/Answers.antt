@@ -1,4 +1,4 @@
-use Rattle.std.proofs.Common.{◌≡◌, ℕ, List, [], ◌∷◌, ◌++◌, pos, nat_abs, ◌<ℤ◌, decimal, sym, ap, ◌∙◌, subst, arith, rules}
+use Rattle.std.proofs.Common.{◌≡◌, ℕ, List, ◌∷◌, pos, nat_abs, ◌<ℤ◌, decimal, sym, ap, ◌∙◌, subst, arith, rules}
 use Rattle.std.proofs.lemmas.Int.{to_z-of_z}
 use Rattle.file.specs.Figure.{Wrote, figure_text}
 use Rattle.file.proofs.Writes.{wrote_more, negative_text}

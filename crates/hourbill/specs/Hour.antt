@@ -4,7 +4,7 @@ use Rattle.prices.specs.declared.block.Block.{Block}
 use Rattle.prices.specs.declared.kind.Kind.{Kind}
 use Rattle.prices.specs.declared.kind.Kind.TheVariants.{Generator, Import, Load, Export}
 use Rattle.prices.specs.Kind.{source}
-use Rattle.prices.specs.Block.{no_block, ahead}
+use Rattle.prices.specs.Block.{ahead}
 
 -- the kind that a letter's code stands for: G, I, L or X
 abbrev pub kind_of : ℕ → Option Kind

@@ -10,6 +10,7 @@ mod report;
 
 use error::Error;
 use std::io::Read;
+use std::process::ExitCode;
 
 // The most bytes that an hour file has.
 const MAX_BYTES: usize = 32768;
@@ -34,10 +35,12 @@ fn run(rt: &HostRuntime) -> Result<(), Error> {
     Ok(())
 }
 
-fn main(rt: HostRuntime) -> Result<(), Error> {
-    let outcome = run(&rt);
-    if let Err(error) = &outcome {
-        eprintln!(rt; "hourbill: {error}")?;
+fn main(rt: HostRuntime) -> ExitCode {
+    match run(&rt) {
+        Ok(()) => ExitCode::SUCCESS,
+        Err(error) => {
+            let _ = eprintln!(rt; "hourbill: {error}");
+            ExitCode::FAILURE
+        }
     }
-    outcome
 }

@@ -14,7 +14,7 @@ use Rattle.file.specs.declared.key.Key.{Key}
 use Rattle.file.proofs.Places.{drop_stands, stands_from_drop}
 use Rattle.file.proofs.Readings.{written_once, key_unique}
 
-stands_long : (file : List ℕ) (start next : ℕ) (text : List ℕ) → Stands file start next text → next ≡ start + length text
+pub stands_long : (file : List ℕ) (start next : ℕ) (text : List ℕ) → Stands file start next text → next ≡ start + length text
 stands_long file start next text s = omega (arith, s.order, sym (length-between file start next s.within) ∙ ap length s.same)
 
 begins_with_key : (file : List ℕ) (start next : ℕ) (item : Item) → Stands file start next (writing item) → drop start file ≡ key_text (key_of item) ++ (row (fields item) ++ drop next file)

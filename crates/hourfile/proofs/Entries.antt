@@ -1,35 +1,32 @@
 -- A line of the priced hour behind others: its call is accepted and the hour goes on, or it is the first fault. Assumes nothing.
-use Rattle.std.proofs.Common.{◌≡◌, ℕ, ◌+◌, ◌-◌, ◌≤◌, Bool, true, false, ◌&&◌, ltb, leb, List, [], ◌∷◌, length, is_some, Some, None, Ok, Err, Option, Result, sym, refl, ap, ◌∙◌, subst, inl, inr, arith}
-use Rattle.std.proofs.lemmas.Bool.{and_parts, both_ways, cases_eq, leb-true}
+use Rattle.std.proofs.Common.{◌≡◌, ℕ, ◌-◌, ◌≤◌, true, ◌&&◌, ltb, leb, List, [], ◌∷◌, length, is_some, Some, None, Ok, Err, Option, Result, sym, refl, ap, ◌∙◌, subst, inl, inr, arith}
+use Rattle.std.proofs.lemmas.Bool.{and_parts, cases_eq, leb-true}
 use Rattle.hour.specs.declared.fault.Fault as hour
-use Rattle.hour.specs.declared.market.Market.{Market}
 use Rattle.hour.specs.declared.book.Book.{Book}
 use Rattle.hour.specs.Reason.{answer}
 use Rattle.hour.specs.Market.{asset_at, record_at}
 use Rattle.hour.specs.Book.{owner_of, meter_reasons, propose_reasons}
 use Rattle.hour.specs.Priced.{OnlyReading, Metering, Proposal}
-use Rattle.ledger.specs.Trade.{LivedTrade, Traded, trades_of}
-use Rattle.ledger.specs.Call.{Call, Lived, Leads, meter, propose, confirm, calls_of}
+use Rattle.ledger.specs.Call.{meter, propose, confirm, calls_of}
 use Rattle.ledger.specs.Ledger.{book_of, ledger_of}
 use Rattle.ledger.proofs.Agreement.{book_agrees}
 use Rattle.file.specs.Item.{key_of}
 use Rattle.file.specs.Key.{order_of, follows}
-use Rattle.file.specs.Line.{ReadLine, BrokenLine}
+use Rattle.file.specs.Line.{ReadLine}
 use Rattle.file.specs.declared.body.Read.{Read}
 use Rattle.file.specs.declared.item.Item.{Item}
 use Rattle.file.specs.declared.item.Item.TheVariants.{Hour, Asset, Offer, Order, Shed, Meter, Instruct, Rule}
 use Rattle.file.specs.declared.item.RuleName.{RuleName}
 use Rattle.file.specs.declared.key.Key.{Key}
-use Rattle.file.specs.declared.key.Key.TheVariants as line-key
-use Rattle.hourfile.specs.Call.{Owners, EntryLine, passed_on, Joined, InstructedLine, MeteredLine, Entered}
-use Rattle.hourfile.specs.Cursor.{BrokenHere, beyond, Behind, Through, CameTo, EntryNext, Entering, Ruled, EntryStep}
-use Rattle.hourfile.specs.Lines.{last_key, label_in, trades_in, calls_in, market_in, book_in, reasons}
-use Rattle.hourfile.specs.Outcome.{AtFault, FirstFault}
+use Rattle.hourfile.specs.Call.{Owners, EntryLine, passed_on, Joined, Entered}
+use Rattle.hourfile.specs.Cursor.{BrokenHere, beyond, Through, CameTo, EntryNext, Entering, EntryStep}
+use Rattle.hourfile.specs.Lines.{last_key, calls_in, market_in, book_in, reasons}
+use Rattle.hourfile.specs.Outcome.{FirstFault}
 use Rattle.hourfile.specs.declared.cursor.Cursor.{Cursor}
 use Rattle.hourfile.specs.declared.fault.Fault.{Fault}
 use Rattle.hourfile.specs.declared.fault.Fault.TheVariants as of_file
 use Rattle.hourfile.specs.declared.fault.LineFault.{LineFault}
-use Rattle.hourfile.proofs.Passing.{stopped, broken_line, not_rule, further, allowed_here, accepted_if, passes, moves}
+use Rattle.hourfile.proofs.Passing.{stopped, broken_line, not_rule, further, accepted_if, passes, moves}
 use Rattle.hourfile.proofs.Trades.{market_is}
 
 -- the tables of the lines are those that a client has come to by their calls

@@ -1,16 +1,14 @@
 -- The start of a file, the close of the hour, and the end of the file. Assumes nothing.
-use Rattle.std.proofs.Common.{◌≡◌, ℕ, ◌+◌, ◌<◌, ◌≤◌, Bool, true, false, cond, ltb, List, [], ◌∷◌, ◌++◌, length, drop, Some, None, Ok, Err, Result, sym, refl, ap, ◌∙◌, subst, inl, arith}
+use Rattle.std.proofs.Common.{◌≡◌, ℕ, ◌≤◌, Bool, true, false, cond, ltb, List, [], ◌∷◌, ◌++◌, length, None, Ok, Err, Result, sym, refl, ap, ◌∙◌, subst, inl, arith}
 use Rattle.std.proofs.lemmas.List.{append-nil, drop_all}
 use Rattle.std.proofs.lemmas.Bool.{both_ways, ltb-true, ltb-false, lt-ltb}
 use Rattle.hour.specs.declared.market.Market.{Market}
 use Rattle.hour.specs.declared.book.Book.{Book}
 use Rattle.hour.specs.Book.{new_book}
 use Rattle.ledger.proofs.Soundness.{market_sound}
-use Rattle.file.specs.Key.{order_of, FoundKey}
-use Rattle.file.specs.declared.item.Item.{Item}
+use Rattle.file.specs.Key.{order_of}
 use Rattle.file.specs.declared.item.Item.TheVariants.{Rule}
 use Rattle.file.specs.declared.item.RuleName.{RuleName}
-use Rattle.file.specs.declared.key.Key.{Key}
 use Rattle.file.proofs.Places.{drop_stands, nothing_stands}
 use Rattle.hourfile.specs.Cursor.{BrokenHere, Behind, Trading, CameTo, EntryNext, Entering, Ruled, ReadWhole}
 use Rattle.hourfile.specs.Lines.{written}

@@ -1,14 +1,12 @@
 -- The run of a file that was read whole: its statement, or why its draw is refused. Assumes nothing.
-use Rattle.std.proofs.Common.{◌≡◌, ℕ, ◌+◌, Bool, true, false, cond, List, [], ◌∷◌, ◌++◌, map, length, take, drop, ℤ, is_ok, Ok, Err, Result, sym, refl, ap, ◌∙◌, subst, inl, inr, arith}
+use Rattle.std.proofs.Common.{◌≡◌, ℕ, Bool, true, false, cond, List, [], ◌∷◌, ◌++◌, map, length, take, drop, is_ok, Ok, Err, sym, refl, ap, ◌∙◌, subst, inr, arith}
 use Rattle.std.proofs.lemmas.List.{length-map, take_at}
-use Rattle.std.proofs.lemmas.Bool.{cond-true, both_ways}
+use Rattle.std.proofs.lemmas.Bool.{cond-true}
 use Rattle.splitting.specs.Rule.{Lawful}
 use Rattle.splitting.specs.Gains.{running_lawful}
 use Rattle.splitting.specs.Remainders.{largest_lawful}
 use Rattle.hour.specs.declared.fault.Fault as hour
 use Rattle.hour.specs.declared.line.Line.{Line}
-use Rattle.hour.specs.declared.slip.Slip.{Slip}
-use Rattle.hour.specs.declared.market.Market.{Market}
 use Rattle.hour.specs.declared.book.Book.{Book}
 use Rattle.hour.specs.Reason.{Reason, first_fitting, answer}
 use Rattle.hour.specs.Line.{lines_of, line_of}
@@ -17,10 +15,10 @@ use Rattle.hour.specs.Run.{price_of, drawn_amounts, drawn_lines, draw_reasons, d
 use Rattle.hour.proofs.Outcomes.{NoneFits, none_fits}
 use Rattle.hour.proofs.Slips.{fresh_fits}
 use Rattle.ledger.specs.Trade.{accepted, trades_of, market_of}
-use Rattle.ledger.specs.Call.{Call, Lived, draw, post, calls_of}
-use Rattle.ledger.specs.Ledger.{Draw, Ledger, book_of, with_draw, entered, ledger_of}
+use Rattle.ledger.specs.Call.{Lived, draw, post, calls_of}
+use Rattle.ledger.specs.Ledger.{Ledger, book_of, with_draw, entered, ledger_of}
 use Rattle.ledger.specs.Imbalance.{price_times_imbalance, all_nets}
-use Rattle.ledger.specs.Law.{CameBy, nets_due, ledger_by}
+use Rattle.ledger.specs.Law.{CameBy, nets_due}
 use Rattle.ledger.proofs.Agreement.{market_agrees, book_agrees}
 use Rattle.ledger.proofs.PostedLines.{posted_nets}
 use Rattle.file.specs.declared.item.Item.{Item}
@@ -29,13 +27,11 @@ use Rattle.file.specs.declared.item.RuleName.{RuleName}
 use Rattle.file.specs.declared.item.RuleName.TheVariants.{Largest, Running}
 use Rattle.file.specs.declared.statement.PrintLine.{PrintLine}
 use Rattle.file.specs.declared.statement.PrintLine.TheVariants as shown
-use Rattle.hourfile.specs.Cursor.{CameTo, ReadWhole}
+use Rattle.hourfile.specs.Cursor.{ReadWhole}
 use Rattle.hourfile.specs.Lines.{label_in, market_in, book_in}
-use Rattle.hourfile.specs.Outcome.{shares_by, amounts_line, statement, refused_draw, Settled, Unsettled, Undrawn}
+use Rattle.hourfile.specs.Outcome.{shares_by, amounts_line, Settled, Unsettled}
 use Rattle.hourfile.specs.Run.{DrawnAndPosted, DrawRefused}
 use Rattle.hourfile.specs.declared.fault.Fault.{Fault}
-use Rattle.hourfile.specs.declared.fault.Fault.TheVariants.{Hour}
-use Rattle.hourfile.specs.declared.fault.LineFault.{LineFault}
 use Rattle.hourfile.proofs.Entries.{book_is}
 use Rattle.hourfile.proofs.Instructions.{none_refuse}
 use Rattle.hourfile.proofs.Passing.{accepts}

@@ -1,5 +1,5 @@
 -- A trading line behind others: its call is accepted and the hour goes on, or it is the first fault. Assumes nothing.
-use Rattle.std.proofs.Common.{◌≡◌, ℕ, ◌+◌, ◌≤◌, Bool, true, false, ◌&&◌, ltb, leb, List, [], ◌∷◌, length, take, Some, None, Ok, Err, Option, Result, sym, refl, ap, ◌∙◌, subst, arith}
+use Rattle.std.proofs.Common.{◌≡◌, ℕ, ◌≤◌, true, false, ◌&&◌, ltb, leb, List, ◌∷◌, length, take, Some, Ok, Err, Result, sym, refl, ap, ◌∙◌, subst, arith}
 use Rattle.std.proofs.lemmas.Bool.{and_parts, both_ways}
 use Rattle.prices.specs.declared.block.Block.{Block}
 use Rattle.hour.specs.declared.fault.Fault as hour
@@ -10,17 +10,16 @@ use Rattle.ledger.specs.Trade.{Trade, enrol, offer, order, shedding, LivedTrade,
 use Rattle.ledger.proofs.Agreement.{market_agrees}
 use Rattle.file.specs.Item.{key_of}
 use Rattle.file.specs.Key.{order_of, follows}
-use Rattle.file.specs.Line.{ReadLine, BrokenLine}
+use Rattle.file.specs.Line.{ReadLine}
 use Rattle.file.specs.declared.body.Read.{Read}
 use Rattle.file.specs.declared.item.Item.{Item}
 use Rattle.file.specs.declared.item.Item.TheVariants.{Hour, Asset, Offer, Order, Shed, Meter, Instruct, Rule}
-use Rattle.file.specs.declared.key.Key.{Key}
 use Rattle.file.specs.declared.key.Key.TheVariants as line-key
 use Rattle.hourfile.specs.Call as call
 use Rattle.hourfile.specs.Call.{EntryLine, passed_on, MadeTrade, NoTrade}
-use Rattle.hourfile.specs.Cursor.{BrokenHere, beyond, Behind, Through, Trading, EntryNext}
+use Rattle.hourfile.specs.Cursor.{BrokenHere, beyond, Trading, EntryNext}
 use Rattle.hourfile.specs.Lines.{last_key, label_in, trades_in, calls_in, market_in, reasons}
-use Rattle.hourfile.specs.Outcome.{AtFault, FirstFault}
+use Rattle.hourfile.specs.Outcome.{FirstFault}
 use Rattle.hourfile.specs.declared.cursor.Cursor.{Cursor}
 use Rattle.hourfile.specs.declared.fault.Fault.{Fault}
 use Rattle.hourfile.specs.declared.fault.Fault.TheVariants as of_file

@@ -1,5 +1,5 @@
 -- What the call of a line answers, by the contract of the call that is made. Assumes nothing.
-use Rattle.std.specs.Prelude.{◌≡◌, ℕ, ◌≤◌, Bool, true, false, ◌⊎◌, take, is_some, Some, None, Ok, Err, Option, Result}
+use Rattle.std.specs.Prelude.{◌≡◌, ℕ, ◌≤◌, Bool, true, false, take, is_some, Some, None, Ok, Err, Option, Result}
 use Rattle.hour.specs.declared.fault.Fault as hour
 use Rattle.hour.specs.declared.market.Market.{Market}
 use Rattle.hour.specs.declared.book.Book.{Book}

@@ -1,4 +1,4 @@
-use Rattle.std.proofs.Common.{◌≡◌, Ok, Err, sym, ap, ◌∙◌, subst}
+use Rattle.std.proofs.Common.{◌≡◌, Ok, Err, ap, ◌∙◌, subst}
 use Rattle.hour.specs.Book.{owner_of, confirm_reasons}
 use Rattle.hour.specs.Reason.{answer}
 use Rattle.hour.specs.Priced.{Confirmation}

@@ -1,4 +1,4 @@
-use Rattle.std.proofs.Common.{◌≡◌, sym, subst}
+use Rattle.std.proofs.Common.{sym, subst}
 use Rattle.hourfile.specs.Cursor.{EntryStep}
 use Rattle.hourfile.specs.Outcome.{FirstFault}
 use Rattle.hourfile.proofs.Passing.{handed_on, line_small}

@@ -1,8 +1,7 @@
-use Rattle.std.proofs.Common.{◌≡◌, ℕ, ◌<◌, List, length, Ok, Err, Result, sym, ap, ◌∙◌, subst}
+use Rattle.std.proofs.Common.{◌≡◌, ℕ, ◌<◌, List, length, Ok, Err, Result, ap, ◌∙◌, subst}
 use Rattle.hourfile.specs.Print.{lines_of}
 use Rattle.file.specs.declared.statement.PrintLine.{PrintLine}
-use Rattle.hourfile.specs.declared.print.Print.{Print}
-use Rattle.hourfile.specs.Outcome.{Outcome, print, Fills, Settles}
+use Rattle.hourfile.specs.Outcome.{Outcome, print, Fills}
 use Rattle.hourfile.specs.declared.fault.Fault.TheVariants.{TextTooShort}
 use Rattle.hourfile.specs.declared.fault.LineFault.{LineFault}
 use Rattle.hourfile.proofs.Unique.{outcome_unique}

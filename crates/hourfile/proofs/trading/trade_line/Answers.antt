@@ -1,4 +1,4 @@
-use Rattle.std.proofs.Common.{◌≡◌, ◌<◌, Ok, sym, ap, subst}
+use Rattle.std.proofs.Common.{◌<◌, Ok, sym, subst}
 use Rattle.hourfile.specs.Call.{Traded}
 use Rattle.hourfile.specs.Cursor.{Trading}
 use Rattle.hourfile.specs.Outcome.{FirstFault}

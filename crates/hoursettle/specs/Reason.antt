@@ -1,15 +1,15 @@
 -- The words for each reason of a refusal. Assumes nothing.
 use Rattle.std.specs.Prelude.{ℕ, List, codes}
 use Rattle.splitting.specs.declared.fault.Fault as splitting
-use Rattle.splitting.specs.declared.fault.Fault.TheVariants as of-split
+use Rattle.splitting.specs.declared.fault.Fault.TheVariants as of_split
 use Rattle.hour.specs.declared.fault.Fault.{Fault}
 use Rattle.hour.specs.declared.fault.Fault.TheVariants.{RunOut, ForeignSlip, OutOfRange, EnrolledAlready, NotEnrolled, OfferAfterOrder, UnsoundBlocks, WrongMinute, LevelTooHigh, EnergyOutOfRange, WrongKinds, WrongStage, WrongParty, ListTooShort, ReadingMissing, Split, DrawsUsedUp, NetTooLarge}
 
 -- why a charge cannot be split
 abbrev pub split_reason : splitting.Fault → List ℕ
-split_reason (of-split.ListTooShort needed) = codes "the list is too short for the shares needed"
-split_reason of-split.NothingWeighs = codes "there is a charge, and no sink has a reading above 0"
-split_reason of-split.LimitPassed = codes "a charge or its weights pass a limit"
+split_reason (of_split.ListTooShort needed) = codes "the list is too short for the shares needed"
+split_reason of_split.NothingWeighs = codes "there is a charge, and no sink has a reading above 0"
+split_reason of_split.LimitPassed = codes "a charge or its weights pass a limit"
 
 -- why a call on the hour is refused
 abbrev pub reason : Fault → List ℕ

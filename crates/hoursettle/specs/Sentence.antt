@@ -1,13 +1,13 @@
 -- The sentence on what is wrong with a file. Assumes nothing.
 use Rattle.std.specs.Prelude.{ℕ, cond, List, [], ◌++◌, codes, decimal, ◌==◌}
 use Rattle.hour.specs.Fault as hour
-use Rattle.hour.specs.declared.fault.Fault as hour-fault
+use Rattle.hour.specs.declared.fault.Fault as hour_fault
 use Rattle.hourfile.specs.declared.fault.Fault.{Fault}
 use Rattle.hourfile.specs.declared.fault.Fault.TheVariants.{Hour, IllFormed, TextTooShort}
 use Rattle.hoursettle.specs.Reason.{reason}
 
 -- a refused call: the reason in words, and the subject
-abbrev pub refused : hour-fault.Fault → List ℕ
+abbrev pub refused : hour_fault.Fault → List ℕ
 refused fault = reason fault ++ (codes " (" ++ (decimal (hour.refusal fault).subject ++ codes ")"))
 
 -- the line at fault, if there is one

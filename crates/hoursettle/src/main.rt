@@ -10,6 +10,7 @@ use file::SIZE_LIMIT;
 use hourfile::{find_fault, settle};
 use std::env;
 use std::io::{Read, Write};
+use std::process::ExitCode;
 
 // More bytes than any print takes.
 const TEXT_SIZE: usize = 8192;
@@ -57,10 +58,12 @@ fn run(rt: &HostRuntime) -> Result<(), Error> {
     }
 }
 
-fn main(rt: HostRuntime) -> Result<(), Error> {
-    let outcome = run(&rt);
-    if let Err(error) = &outcome {
-        eprintln!(rt; "hourbill: {error}")?;
+fn main(rt: HostRuntime) -> ExitCode {
+    match run(&rt) {
+        Ok(()) => ExitCode::SUCCESS,
+        Err(error) => {
+            let _ = eprintln!(rt; "hourbill: {error}");
+            ExitCode::FAILURE
+        }
     }
-    outcome
 }

@@ -5,4 +5,3 @@ pub mod Call
 pub mod Outcome
 pub mod Cursor
 pub mod Run
-pub mod Export

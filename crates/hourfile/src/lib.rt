@@ -4,7 +4,6 @@
 mod call;
 mod cursor;
 mod entry;
-mod export;
 mod fault;
 mod print;
 mod reading;
@@ -13,7 +12,6 @@ mod settlement;
 mod statement;
 mod trading;
 
-pub use export::hourbill_settle;
 pub use fault::{Fault, LineFault};
 pub use print::Print;
 pub use settlement::{find_fault, settle};

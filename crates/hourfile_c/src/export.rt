@@ -1,6 +1,6 @@
-ghost use Rattle.hourfile.specs.Export.{SettlesFor};
+ghost use Rattle.hourfile_c.specs.Export.{SettlesFor};
 
-use crate::settlement::settle;
+use hourfile::settle;
 
 // Settles a file for callers in C or Rust; answers how many bytes of the text are filled, 0 if the text is too short.
 #[unsafe(no_mangle)]

@@ -1,5 +1,5 @@
 -- The sentence on what is wrong with a file. Assumes nothing.
-use Rattle.std.specs.Prelude.{ℕ, cond, List, [], ◌++◌, codes, decimal, ◌==◌}
+use Rattle.std.specs.Prelude.{ℕ, cond, List, ◌++◌, codes, decimal, ◌==◌}
 use Rattle.hour.specs.Fault as hour
 use Rattle.hour.specs.declared.fault.Fault as hour_fault
 use Rattle.hourfile.specs.declared.fault.Fault.{Fault}

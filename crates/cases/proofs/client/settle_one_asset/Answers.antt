@@ -36,13 +36,23 @@ returns g c =
       since = (c.close-hour.result.book, c.close-hour.ensures.state, c.meter.ensures);
     } in
     let last = posted_last c.args.label traded read before ready shares law c.args.lines.now c.in_ok-slip.slip _ _ c.in_ok-slip.ensures c.draw.result c.post.result in
+    let due = to_z-of_z fits ∙ (c.posted_nets.ensures.law c.args.label traded lived came).posted_nets_equal_price_times_imbalance in
     record {
-      traded = traded;
-      lived = lived;
-      book = c.post.new.self.book;
-      came = came;
-      last = draw_from (ledger_by c.args.label traded read) shares law;
-      earlier = (ledger_by c.args.label traded read).posted;
-      posted_last = last;
-      due = to_z-of_z fits ∙ (c.posted_nets.ensures.law c.args.label traded lived came).posted_nets_equal_price_times_imbalance ∙ ap nets_due last;
+      settled = record {
+        traded = traded;
+        lived = lived;
+        book = c.post.new.self.book;
+        came = came;
+        due = due;
+      };
+      last = record {
+        traded = traded;
+        lived = lived;
+        book = c.post.new.self.book;
+        came = came;
+        last = draw_from (ledger_by c.args.label traded read) shares law;
+        earlier = (ledger_by c.args.label traded read).posted;
+        posted_last = last;
+        due = due ∙ ap nets_due last;
+      };
     }

@@ -3,11 +3,9 @@
 //! Build: rustc -O --edition 2024 tools/bench/main.rs -o /tmp/bench
 //! Run:   bench [SECONDS]      time for each implementation and size, 2 if not given
 //!
-//! With the proved implementation beside it, and as a ratio, where CRATE is the crate that exports `hourbill_settle`:
-//!        rt staticlib CRATE
-//!        rustc -O --edition 2024 --cfg hourbill -L target/staticlib -l static=CRATE -L KIT/lib -l static=rattle_c \
-//!            tools/bench/main.rs -o /tmp/bench
-//! KIT/lib/librattle_c.a is the library that `rt staticlib` names in its last line.
+//! With the proved implementation beside it, and as a ratio; the crate `hourfile_c` exports `hourbill_settle`:
+//!        (cd crates/hourfile_c && rt lib)
+//!        rustc -O --edition 2024 --cfg hourbill -L crates/hourfile_c/out -l static=hourfile_c tools/bench/main.rs -o /tmp/bench
 
 #![allow(unexpected_cfgs)]
 

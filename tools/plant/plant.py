@@ -3,7 +3,7 @@
 Usage: python3 tools/plant/plant.py CRATE COUNT SEED [--results FILE] [--work FOLDER] [--alone] [--list]
 
 The edits are chosen by the seed, in turn over all functions of the crate. Each is made in a copy of the repository
-outside the tree, which has its own target/, so that a check does only what the edit changes. An edit that does not
+outside the tree, with what the crates' checks have kept in out/, so that a check does only what the edit changes. An edit that does not
 reach the prover is not counted. One that the crate's own check lets pass is also tried on the crates above it, unless
 --alone is given. COUNT edits are judged in all: results are appended to FILE, and a later call with the same file goes
 on where it stopped. At the end every edit is printed that was not refused, or was refused first at a name that a proof
@@ -64,7 +64,7 @@ def crates_above(crate):
     for line in (TREE / "crates.txt").read_text().splitlines():
         name, _, below = line.partition(":")
         if name.strip() and not name.startswith("#"):
-            stands_on[name.strip()] = below.split()
+            stands_on[name.split()[0]] = below.split()
     changed = True
     while changed:
         changed = False
@@ -76,18 +76,16 @@ def crates_above(crate):
 
 
 def make_copy(work):
-    """The repository's crates and, the first time, its target/ in the folder."""
+    """The repository's crates in the folder, with what their checks have kept."""
     work.mkdir(parents=True, exist_ok=True)
     shutil.rmtree(work / "crates", ignore_errors=True)
-    shutil.copytree(TREE / "crates", work / "crates")
+    shutil.copytree(TREE / "crates", work / "crates", symlinks=True)
     shutil.copy2(TREE / "crates.txt", work / "crates.txt")
-    if (TREE / "target").is_dir() and not (work / "target").is_dir():
-        subprocess.run(["cp", "-a", str(TREE / "target"), str(work / "target")], check=True)
 
 
 def check(work, crate):
-    """The verdict of `rt dev`: proved, refused or unfit, and the first line that says why."""
-    run = subprocess.run(["rt", "dev", crate], cwd=work, stdout=subprocess.PIPE, stderr=subprocess.STDOUT,
+    """The verdict of `rt check`: proved, refused or unfit, and the first line that says why."""
+    run = subprocess.run(["rt", "check"], cwd=work / "crates" / crate, stdout=subprocess.PIPE, stderr=subprocess.STDOUT,
                          text=True, errors="replace", timeout=LONGEST_CHECK)
     if run.returncode == 0:
         return "proved", ""
@@ -125,7 +123,7 @@ def told(one):
 
 def at_a_name(one):
     """Whether a refusal shows first that a proof file cites a step that is gone, and not that a fact fails."""
-    return one["verdict"].startswith("refused") and re.search(r"`need\.[^`]*`: module", one["why"]) is not None
+    return one["verdict"].startswith("refused") and re.search(r"`goal\.[^`]*`: module", one["why"]) is not None
 
 
 def plant(arguments):

@@ -3,8 +3,7 @@
 Usage: python3 tools/plant/stored.py FOLDER CRATE...
 
 The edits stand in tools/plant/stored/CRATE and in crates/CRATE/must-fail, in the form of must-fail edits. FOLDER is a copy
-of the repository outside the tree, with its target/, in which each edit is made and taken back. An edit costs the quick check
-a part of what it costs the gate, which proves the whole crate from nothing for each; so most edits stand here.
+of the repository outside the tree, with what its checks have kept in out/, in which each edit is made and taken back.
 The exit status is 1 if an edit was not refused.
 """
 
@@ -30,7 +29,7 @@ def try_edit(folder, crate, path):
         return "BAD EDIT", f"its old text stands {before.count(old)} times in {name}"
     source.write_text(before.replace(old, new))
     try:
-        run = subprocess.run(["rt", "dev", crate], cwd=folder, capture_output=True, text=True)
+        run = subprocess.run(["rt", "check"], cwd=folder / "crates" / crate, capture_output=True, text=True)
     finally:
         source.write_text(before)
     said = run.stdout + run.stderr

@@ -2,7 +2,7 @@
 //!
 //! Build: rustc -O --edition 2024 reference/main.rs -o /tmp/reference
 //!
-//! Without arguments it does what docs/FILE_FORMAT.md says of `hourbill`. With `--batch` it settles many files
+//! Without arguments it does what docs/FILE_FORMAT.md says of `hoursettle`. With `--batch` it settles many files
 //! in one run: for each file it reads a length of four bytes (the lowest first) and the file's bytes, and
 //! writes the length of the print in the same way and the print, until its input ends.
 

@@ -15,7 +15,7 @@ use std::process::ExitCode;
 // More bytes than any print takes.
 const TEXT_SIZE: usize = 8192;
 
-const USAGE: &str = "usage: hourbill < FILE
+const USAGE: &str = "usage: hoursettle < FILE
 
 Settles one hour of the pool. FILE is an hour file of at most 32768 bytes.
 The statement, or the fault of the file, is written to standard output.
@@ -62,7 +62,7 @@ fn main(rt: HostRuntime) -> ExitCode {
     match run(&rt) {
         Ok(()) => ExitCode::SUCCESS,
         Err(error) => {
-            let _ = eprintln!(rt; "hourbill: {error}");
+            let _ = eprintln!(rt; "hoursettle: {error}");
             ExitCode::FAILURE
         }
     }

@@ -16,13 +16,12 @@ use Rattle.hour.specs.declared.book.Book.{Book}
 use Rattle.hour.specs.declared.charge.Charge.{Charge}
 use Rattle.hour.specs.declared.charge.Charge.TheVariants.{Supply, Load}
 use Rattle.hour.specs.Reason.{Reason, when, first_fitting}
-use Rattle.hour.specs.Market.{outcome}
 use Rattle.hour.specs.Listing.{listing}
 use Rattle.hour.specs.Figure.{figure_of}
 use Rattle.hour.specs.Charge.{weighed, weights, stranded, over_limit, charge_reasons, both, charge_answer, charge_table}
 use Rattle.hour.specs.Amounts.{instead, amounts_answer}
 use Rattle.hour.specs.Line.{new_amounts, first_beyond}
-use Rattle.hour.specs.Run.{price_of, first_unread, drawn_lines, draw_reasons, draw_answer, written_lines, slip_of, drawn}
+use Rattle.hour.specs.Run.{price_of, first_unread, drawn_lines, draw_reasons, slip_of, Drawing}
 use Rattle.hour.proofs.Listings.{listing_short}
 
 -- a reason that does not fit is passed over, and one that fits decides
@@ -92,12 +91,6 @@ module _ (shares : ℕ → List ℕ → List ℕ) (price : ℕ) (b : Book) where
   pub amounts_given : (amounts : List Amounts) → Ok amounts ≡ amounts_answer shares price b → amounts ≡ new_amounts shares price b
   amounts_given amounts e = same_value (both (charge_answer shares Supply price b) (charge_answer shares Load price b)) amounts (new_amounts shares price b) e
 
--- what a draw answers and leaves
-pub record Drew (shares : ℕ → List ℕ → List ℕ) (before : Book) (list : List Line) (r : Result Slip Fault) (after : Book) (left : List Line) : Type 0 where
-  pub answer : r ≡ draw_answer shares before (length list)
-  pub state : after ≡ outcome r (drawn shares before) before
-  pub writes : left ≡ outcome r (written_lines shares before list) list
-
 module _ (shares : ℕ → List ℕ → List ℕ) (b : Book) (list : List Line)
     (none_out : is_some b.out ≡ false) (room : length (listing b.market) ≤ length list) (read : first_unread b.market ≡ None) where
   abbrev end : Result Slip Fault
@@ -123,7 +116,7 @@ module _ (shares : ℕ → List ℕ → List ℕ) (b : Book) (list : List Line)
       ∙ skip (is_some (first_unread b.market)) (ReadingMissing (unwrap_or (first_unread b.market) 0)) (charge_reasons (price_of b) b ++ last_two) end (ap is_some read)
       ∙ charges_told shares (price_of b) b last_two end
 
-  pub refused_by_rule : (fault : splitting.Fault) → Err fault ≡ amounts_answer shares (price_of b) b → Drew shares b list (Err (Split fault)) b list
+  pub refused_by_rule : (fault : splitting.Fault) → Err fault ≡ amounts_answer shares (price_of b) b → Drawing shares b list (Err (Split fault)) b list
   refused_by_rule fault e = record {
     answer = sym (to_charges ∙ ap (λ a. lifted a (first_fitting last_two end)) (sym e));
     state = refl;
@@ -134,10 +127,10 @@ module _ (shares : ℕ → List ℕ → List ℕ) (b : Book) (list : List Line)
     to_draws : first_fitting (draw_reasons shares b (length list)) end ≡ first_fitting last_two end
     to_draws = to_charges ∙ ap (λ a. lifted a (first_fitting last_two end)) (sym given)
 
-    pub refused_draws : leb 1000000 b.draws ≡ true → Drew shares b list (Err DrawsUsedUp) b list
+    pub refused_draws : leb 1000000 b.draws ≡ true → Drawing shares b list (Err DrawsUsedUp) b list
     refused_draws full = record { answer = sym (to_draws ∙ hit (leb 1000000 b.draws) DrawsUsedUp last_one end full); state = refl; writes = refl }
 
-    pub refused_net : (participant : ℕ) → leb 1000000 b.draws ≡ false → Some participant ≡ first_beyond (drawn_lines shares b) → Drew shares b list (Err (NetTooLarge participant)) b list
+    pub refused_net : (participant : ℕ) → leb 1000000 b.draws ≡ false → Some participant ≡ first_beyond (drawn_lines shares b) → Drawing shares b list (Err (NetTooLarge participant)) b list
     refused_net participant spare found = record {
       answer = sym (to_draws ∙ skip (leb 1000000 b.draws) DrawsUsedUp last_one end spare ∙ ap (λ o. first_fitting (when (is_some o) (NetTooLarge (unwrap_or o 0)) ∷ []) end) (sym found));
       state = refl;
@@ -145,7 +138,7 @@ module _ (shares : ℕ → List ℕ → List ℕ) (b : Book) (list : List Line)
     }
 
     pub accepted_draw : (left : List Line) → leb 1000000 b.draws ≡ false → None ≡ first_beyond (drawn_lines shares b) → left ≡ drawn_lines shares b ++ drop (length (listing b.market)) list →
-        Drew shares b list end (record { market = b.market; instructions = b.instructions; posted = b.posted; draws = b.draws + 1; out = Some (record { number = b.draws + 1; amounts = amounts }) }) left
+        Drawing shares b list end (record { market = b.market; instructions = b.instructions; posted = b.posted; draws = b.draws + 1; out = Some (record { number = b.draws + 1; amounts = amounts }) }) left
     accepted_draw left spare fine written = record {
       answer = sym (to_draws ∙ skip (leb 1000000 b.draws) DrawsUsedUp last_one end spare ∙ ap (λ o. first_fitting (when (is_some o) (NetTooLarge (unwrap_or o 0)) ∷ []) end) (sym fine));
       state = ap (λ xs. record { market = b.market; instructions = b.instructions; posted = b.posted; draws = b.draws + 1; out = Some (record { number = b.draws + 1; amounts = xs }) }) (amounts_given shares (price_of b) b amounts given);

@@ -12,7 +12,7 @@ use Rattle.hour.specs.Reason.{Reason, first_fitting}
 use Rattle.hour.specs.Market.{outcome}
 use Rattle.hour.specs.Book.{no_amounts}
 use Rattle.hour.specs.Line.{Item, amount_of, Within, new_amounts}
-use Rattle.hour.specs.Run.{drawn_amounts, draw_reasons, draw_answer, drawn, written_lines, Drawing, slip_fits, slip_answer, out_amounts, full_run, settled, Posting, Voiding}
+use Rattle.hour.specs.Run.{drawn_amounts, draw_reasons, drawn, Drawing, DrawingInWords, slip_fits, slip_answer, out_amounts, full_run, settled, Posting, PostingInWords, Voiding, VoidingInWords}
 use Rattle.hour.proofs.Outcomes.{after_if, accepted, untouched}
 use Rattle.hour.proofs.PricedSteps.{Kept}
 use Rattle.hour.proofs.Runs.{nothing_within}
@@ -67,13 +67,9 @@ same_slip (reason ∷ rest) given slip e = at reason.fits e (same_slip rest give
 
 -- what is true after a draw
 pub draw_words : (shares : ℕ → List ℕ → List ℕ) (before : Book) (list : List Line) (r : Result Slip Fault) (after : Book) (left : List Line) →
-    r ≡ draw_answer shares before (length list) → after ≡ outcome r (drawn shares before) before → left ≡ outcome r (written_lines shares before list) list →
-    Drawing shares before list r after left
-draw_words shares before list r after left said state writes = record {
-  answer = said;
+    Drawing shares before list r after left → DrawingInWords shares before list r after
+draw_words shares before list r after left done = let said = done.answer in let state = done.state in record {
   topmost = (omega arith, (omega arith, (omega arith, (omega arith, (omega arith, (omega arith, (omega arith, (omega arith, tt))))))));
-  state = state;
-  writes = writes;
   out_now = λ slip e.
       ap (λ b. b.out) (accepted r _ _ _ state (ap is_ok e))
       ∙ ap (λ s. Some (record { number = s.run; amounts = drawn_amounts shares before })) (sym (same_slip (draw_reasons shares before (length list)) _ slip (sym e ∙ said)));
@@ -119,20 +115,16 @@ module _ (b changed : Book) (slip : Slip) (r : Result (Unit {0}) Returned) (afte
   by_untouched f same = by_slip (λ x. f x ≡ f b) b changed slip after state (λ _. same) refl
 
 -- what is true after a post and after a void
-pub post_words : (b : Book) (slip : Slip) (r : Result (Unit {0}) Returned) (after : Book) → r ≡ slip_answer b slip → after ≡ cond (slip_fits b slip) (settled b (out_amounts b.out)) b → Posting b slip r after
-post_words b slip r after said state = record {
-  answer = said;
-  state = state;
+pub post_words : (b : Book) (slip : Slip) (r : Result (Unit {0}) Returned) (after : Book) → Posting b slip r after → PostingInWords b r after
+post_words b slip r after done = let said = done.answer in let state = done.state in record {
   posted_now = λ ok. ap (λ x. x.posted) (by_accepted b _ slip r after said state ok);
   none_out = λ ok. ap (λ x. x.out) (by_accepted b _ slip r after said state ok);
   draws = by_untouched b _ slip r after said state (λ x. x.draws) refl;
   others = record { market = by_untouched b _ slip r after said state (λ x. x.market) refl; instructions = by_untouched b _ slip r after said state (λ x. x.instructions) refl };
 }
 
-pub void_words : (b : Book) (slip : Slip) (r : Result (Unit {0}) Returned) (after : Book) → r ≡ slip_answer b slip → after ≡ cond (slip_fits b slip) (settled b b.posted) b → Voiding b slip r after
-void_words b slip r after said state = record {
-  answer = said;
-  state = state;
+pub void_words : (b : Book) (slip : Slip) (r : Result (Unit {0}) Returned) (after : Book) → Voiding b slip r after → VoidingInWords b r after
+void_words b slip r after done = let said = done.answer in let state = done.state in record {
   none_out = λ ok. ap (λ x. x.out) (by_accepted b _ slip r after said state ok);
   posted = by_untouched b _ slip r after said state (λ x. x.posted) refl;
   draws = by_untouched b _ slip r after said state (λ x. x.draws) refl;

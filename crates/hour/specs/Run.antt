@@ -63,25 +63,20 @@ drawn shares b = record {
   out = Some (record { number = b.draws + 1; amounts = drawn_amounts shares b });
 }
 
+-- draw: the lines stand in the leading places of the caller's list, and the run is out
+pub record Drawing (shares : ℕ → List ℕ → List ℕ) (before : Book) (list : List Line) (r : Result Slip Fault) (after : Book) (left : List Line) : Type 0 where
+  pub answer : r ≡ first_fitting (draw_reasons shares before (length list)) (Ok (slip_of before.market.label (before.draws + 1)))
+  pub state : after ≡ outcome r (drawn shares before) before
+  pub writes : left ≡ outcome r (drawn_lines shares before ++ drop (length (listing before.market)) list) list
+
 -- what trading left and the instructions are as they were
 pub record OnlyRuns (before after : Book) : Type 0 where
   pub market : after.market ≡ before.market
   pub instructions : after.instructions ≡ before.instructions
 
--- what a draw answers: a slip with the hour's label and the number of the run
-abbrev pub draw_answer : (ℕ → List ℕ → List ℕ) → Book → (places : ℕ) → Result Slip Fault
-draw_answer shares b places = first_fitting (draw_reasons shares b places) (Ok (slip_of b.market.label (b.draws + 1)))
-
--- what a draw leaves in the caller's list: the lines in the leading places, and the old contents behind them
-abbrev pub written_lines : (ℕ → List ℕ → List ℕ) → Book → List Line → List Line
-written_lines shares b list = drawn_lines shares b ++ drop (length (listing b.market)) list
-
--- draw: the run of the slip is then out with its amounts, one draw more is made, and what is posted is as it was
-pub record Drawing (shares : ℕ → List ℕ → List ℕ) (before : Book) (list : List Line) (r : Result Slip Fault) (after : Book) (left : List Line) : Type 0 where
-  pub answer : r ≡ draw_answer shares before (length list)
+-- draw in words: its reasons stand by rising row; the run of the slip is then out with its amounts, one draw more is made, and what is posted is as it was
+pub record DrawingInWords (shares : ℕ → List ℕ → List ℕ) (before : Book) (list : List Line) (r : Result Slip Fault) (after : Book) : Type 0 where
   pub topmost : Rising (draw_reasons shares before (length list))
-  pub state : after ≡ outcome r (drawn shares before) before
-  pub writes : left ≡ outcome r (written_lines shares before list) list
   pub out_now : (slip : Slip) → r ≡ Ok slip → after.out ≡ Some (record { number = slip.run; amounts = drawn_amounts shares before })
   pub one_more : is_ok r ≡ true → after.draws ≡ before.draws + 1
   pub posted : after.posted ≡ before.posted
@@ -109,19 +104,25 @@ slip_answer b slip = cond (slip_fits b slip) (Ok tt) (Err (record { slip = slip;
 abbrev pub settled : Book → List Amounts → Book
 settled b posted = record { market = b.market; instructions = b.instructions; posted = posted; draws = b.draws; out = None }
 
--- post: the amounts of the run that was out are then posted, and no run is out
+-- post: the amounts of the run out are posted
 pub record Posting (before : Book) (slip : Slip) (r : Result (Unit {0}) Returned) (after : Book) : Type 0 where
   pub answer : r ≡ slip_answer before slip
   pub state : after ≡ cond (slip_fits before slip) (settled before (out_amounts before.out)) before
+
+-- void: the run out is dropped
+pub record Voiding (before : Book) (slip : Slip) (r : Result (Unit {0}) Returned) (after : Book) : Type 0 where
+  pub answer : r ≡ slip_answer before slip
+  pub state : after ≡ cond (slip_fits before slip) (settled before before.posted) before
+
+-- post in words: the amounts of the run that was out are then posted, and no run is out
+pub record PostingInWords (before : Book) (r : Result (Unit {0}) Returned) (after : Book) : Type 0 where
   pub posted_now : is_ok r ≡ true → after.posted ≡ out_amounts before.out
   pub none_out : is_ok r ≡ true → after.out ≡ None
   pub draws : after.draws ≡ before.draws
   pub others : OnlyRuns before after
 
--- void: no run is out then, and what is posted is as it was
-pub record Voiding (before : Book) (slip : Slip) (r : Result (Unit {0}) Returned) (after : Book) : Type 0 where
-  pub answer : r ≡ slip_answer before slip
-  pub state : after ≡ cond (slip_fits before slip) (settled before before.posted) before
+-- void in words: no run is out then, and what is posted is as it was
+pub record VoidingInWords (before : Book) (r : Result (Unit {0}) Returned) (after : Book) : Type 0 where
   pub none_out : is_ok r ≡ true → after.out ≡ None
   pub posted : after.posted ≡ before.posted
   pub draws : after.draws ≡ before.draws

@@ -13,6 +13,7 @@ use Rattle.hour.specs.Line.{lines_of, line_of}
 use Rattle.hour.specs.Listing.{listing}
 use Rattle.hour.specs.Run.{price_of, drawn_amounts, drawn_lines, draw_reasons, drawn, slip_fits}
 use Rattle.hour.proofs.Outcomes.{NoneFits, none_fits}
+use Rattle.hour.proofs.RunSteps.{draw_words, post_words}
 use Rattle.hour.proofs.Slips.{fresh_fits}
 use Rattle.ledger.specs.Trade.{accepted, trades_of, market_of}
 use Rattle.ledger.specs.Call.{Lived, draw, post, calls_of}
@@ -79,7 +80,7 @@ module _ (file : List ℕ) (b : Book) (rule : RuleName) (w : ReadWhole file b ru
 
   module _ (after : Book) (left : List Line) (d : DrawnAndPosted (shares_by rule) b list after left) where
     same_market : after.market ≡ b.market
-    same_market = d.posting.others.market ∙ d.drawing.others.market
+    same_market = (post_words _ d.slip _ _ d.posting).others.market ∙ (draw_words (shares_by rule) b list _ _ left d.drawing).others.market
 
     no_reason : NoneFits (draw_reasons (shares_by rule) b (length list))
     no_reason = none_fits (draw_reasons (shares_by rule) b (length list)) _ (ap is_ok (sym d.drawing.answer))

@@ -1,5 +1,5 @@
 -- Every list of calls has a history. Assumes nothing.
-use Rattle.std.proofs.Common.{◌≡◌, ℕ, Bool, true, cond, List, [], ◌∷◌, length, Result, refl, ap, ◌∙◌, subst}
+use Rattle.std.proofs.Common.{◌≡◌, ℕ, ◌+◌, Bool, true, cond, List, [], ◌∷◌, ◌++◌, length, drop, Ok, Result, refl, ap, ◌∙◌, subst}
 use Rattle.std.proofs.lemmas.List.{length-set}
 use Rattle.std.proofs.lemmas.Bool.{cond_both}
 use Rattle.hour.specs.declared.fault.Fault.{Fault}
@@ -7,14 +7,14 @@ use Rattle.hour.specs.declared.line.Line.{Line}
 use Rattle.hour.specs.declared.slip.Slip.{Slip}
 use Rattle.hour.specs.declared.market.Market.{Market}
 use Rattle.hour.specs.declared.book.Book.{Book}
-use Rattle.hour.specs.Reason.{answer}
+use Rattle.hour.specs.Reason.{answer, first_fitting}
 use Rattle.hour.specs.Market.{outcome, empty_market, enrol_reasons, enrolled, offer_reasons, offered_blocks, order_reasons, ordered, shed_reasons, shed}
 use Rattle.hour.specs.Book.{FullBook, instruction_at, joins, meter_reasons, metered, propose_reasons, proposed, confirm_reasons, confirmed, withdraw_reasons, withdrawn}
+use Rattle.hour.specs.Listing.{listing}
 use Rattle.hour.specs.Line.{new_amounts}
-use Rattle.hour.specs.Run.{draw_answer, drawn, written_lines, slip_fits, slip_answer, out_amounts, settled}
+use Rattle.hour.specs.Run.{drawn_lines, draw_reasons, slip_of, drawn, slip_fits, slip_answer, out_amounts, settled}
 use Rattle.hour.proofs.TradeSteps.{TradeKept, empty_kept, enrol_kept, enrol_words, offer_kept, offer_words, order_kept, order_words, shed_kept, shed_words}
 use Rattle.hour.proofs.PricedSteps.{meter_words, propose_words, confirm_words, withdraw_words}
-use Rattle.hour.proofs.RunSteps.{draw_words, post_words, void_words}
 use Rattle.hour.proofs.Tables.{length_table}
 use Rattle.ledger.specs.Trade.{Trade, enrol, offer, order, shedding, LivedTrade, TradeMade, Traded, trades_of}
 use Rattle.ledger.specs.Call.{Call, meter, propose, confirm, withdraw, draw, post, void, Answer, Lived, Made, Leads, calls_of}
@@ -121,13 +121,13 @@ module _ (l : Ledger) (full : FullBook (book_of l)) (joined : (k : ℕ) → join
       let after = outcome r (withdrawn b number) b in
       record { a = r; after = after; made = withdraw_words b number participant r after refl refl full }
   next_call (draw shares law list) =
-      let r : Result Slip Fault = draw_answer shares b (length list) in
-      let left : List Line = outcome r (written_lines shares b list) list in
-      record { a = (r, left); after = outcome r (drawn shares b) b; made = draw_words shares b list r _ left refl refl refl }
+      let r : Result Slip Fault = first_fitting (draw_reasons shares b (length list)) (Ok (slip_of b.market.label (b.draws + 1))) in
+      let left : List Line = outcome r (drawn_lines shares b ++ drop (length (listing b.market)) list) list in
+      record { a = (r, left); after = outcome r (drawn shares b) b; made = record { answer = refl; state = refl; writes = refl } }
   next_call (post slip) =
-      record { a = slip_answer b slip; after = cond (slip_fits b slip) (settled b (out_amounts b.out)) b; made = post_words b slip _ _ refl refl }
+      record { a = slip_answer b slip; after = cond (slip_fits b slip) (settled b (out_amounts b.out)) b; made = record { answer = refl; state = refl } }
   next_call (void slip) =
-      record { a = slip_answer b slip; after = cond (slip_fits b slip) (settled b b.posted) b; made = void_words b slip _ _ refl refl }
+      record { a = slip_answer b slip; after = cond (slip_fits b slip) (settled b b.posted) b; made = record { answer = refl; state = refl } }
 
 -- a history of calls on a priced hour
 record CallHistory (m : Market) (calls : List Call) : Type 0 where

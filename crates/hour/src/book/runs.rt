@@ -1,9 +1,8 @@
-ghost use Rattle.std.specs.Prelude.{◌≡◌, ℕ, length, if◌then◌else◌, OnOk, slice_index_or};
+ghost use Rattle.std.specs.Prelude.{ℕ, OnOk, slice_index_or};
 ghost use Rattle.hour.specs.Book.{no_amounts};
 ghost use Rattle.hour.specs.Range.{Ranged};
 ghost use Rattle.hour.specs.Line.{Item, amount_of, Within};
-ghost use Rattle.hour.specs.Market.{outcome};
-ghost use Rattle.hour.specs.Run.{out_amounts, draw_answer, drawn, written_lines, slip_answer, slip_fits, settled};
+ghost use Rattle.hour.specs.Run.{out_amounts, Drawing, Posting, Voiding};
 
 use crate::book::Book;
 use crate::fault::Fault;
@@ -23,9 +22,7 @@ impl Book {
     pub fn draw<R: Apportion>(&mut self, rule: &R, lines: &mut [Line]) -> Result<Slip, Fault>
         requires ranged { Ranged self.old }
         requires posted { (k : ℕ) (item : Item) → Within 10000000000000000 (amount_of item (slice_index_or self.old.posted k no_amounts)) }
-        ensures answer { result ≡ draw_answer (R.Apportion.meaning rule.now) self.old (length lines.old) }
-        ensures state { self.new ≡ outcome result (drawn (R.Apportion.meaning rule.now) self.old) self.old }
-        ensures writes { lines.new ≡ outcome result (written_lines (R.Apportion.meaning rule.now) self.old lines.old) lines.old }
+        ensures drawing { Drawing (R.Apportion.meaning rule.now) self.old lines.old result self.new lines.new }
         ensures within { OnOk result ((k : ℕ) (item : Item) → Within 10000000000000000 (amount_of item (slice_index_or (out_amounts self.new.out) k no_amounts))) }
     {
         self.check_none_out()?;
@@ -54,8 +51,7 @@ impl Book {
 
     // Makes the amounts of the run out the posted ones.
     pub fn post(&mut self, slip: Slip) -> Result<(), Returned>
-        ensures answer { result ≡ slip_answer self.old slip }
-        ensures state { self.new ≡ (if slip_fits self.old slip then settled self.old (out_amounts self.old.out) else self.old) }
+        ensures { Posting self.old slip result self.new }
     {
         let out = self.out;
         match out {
@@ -75,8 +71,7 @@ impl Book {
 
     // Drops the run out.
     pub fn void(&mut self, slip: Slip) -> Result<(), Returned>
-        ensures answer { result ≡ slip_answer self.old slip }
-        ensures state { self.new ≡ (if slip_fits self.old slip then settled self.old self.old.posted else self.old) }
+        ensures { Voiding self.old slip result self.new }
     {
         let out = self.out;
         match out {

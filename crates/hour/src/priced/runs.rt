@@ -1,7 +1,7 @@
 ghost use Rattle.std.specs.Prelude.{◌≡◌, length};
 ghost use Rattle.hour.specs.Listing.{listing};
 ghost use Rattle.hour.specs.Line.{Item, amount_of, Within, posted_at};
-ghost use Rattle.hour.specs.Run.{Drawing, Posting, Voiding};
+ghost use Rattle.hour.specs.Run.{Drawing, DrawingInWords, Posting, PostingInWords, Voiding, VoidingInWords};
 
 use crate::fault::Fault;
 use crate::line::{Amounts, Line, NO_AMOUNTS};
@@ -14,21 +14,24 @@ use splitting::Apportion;
 impl PricedHour {
     // Draws a run by a rule: writes its lines into the caller's list and hands out its slip.
     pub fn draw<R: Apportion>(&mut self, rule: &R, lines: &mut [Line]) -> Result<Slip, Fault>
-        ensures { Drawing (R.Apportion.meaning rule.now) self.old.book lines.old result self.new.book lines.new }
+        ensures drawing { Drawing (R.Apportion.meaning rule.now) self.old.book lines.old result self.new.book lines.new }
+        ensures words { DrawingInWords (R.Apportion.meaning rule.now) self.old.book lines.old result self.new.book }
     {
         self.book.draw(rule, lines)
     }
 
     // Makes the lines of the run out posted; a slip that is not that run's comes back.
     pub fn post(&mut self, slip: Slip) -> Result<(), Returned>
-        ensures { Posting self.old.book slip result self.new.book }
+        ensures posting { Posting self.old.book slip result self.new.book }
+        ensures words { PostingInWords self.old.book result self.new.book }
     {
         self.book.post(slip)
     }
 
     // Drops the lines of the run out; a slip that is not that run's comes back.
     pub fn void(&mut self, slip: Slip) -> Result<(), Returned>
-        ensures { Voiding self.old.book slip result self.new.book }
+        ensures voiding { Voiding self.old.book slip result self.new.book }
+        ensures words { VoidingInWords self.old.book result self.new.book }
     {
         self.book.void(slip)
     }

@@ -9,8 +9,8 @@ use Rattle.cases.proofs.client.settle_one_asset.Goals as goal
 
 pub unreachable-requires : goal.unreachable-requires
 unreachable-requires g c =
-    let fits = fresh_fits _ _ _ _ _ _ c.in_ok-slip.ensures in
-    not_returned c.draw.new.self.book c.in_ok-slip.slip _ fits c.in-Err.ensures.answer
+    let fits = fresh_fits _ _ _ _ _ _ c.in_ok-slip.ensures.drawing in
+    not_returned c.draw.new.self.book c.in_ok-slip.slip _ fits c.in-Err.ensures.posting.answer
 
 pub returns : goal.returns
 returns g c =
@@ -25,7 +25,7 @@ returns g c =
     let came : CameBy c.args.label traded lived c.post.new.self.book = record {
       market = c.enrol.new.self.market;
       trading = (c.new-trading.result.market, c.new-trading.ensures, c.enrol.ensures);
-      since = (c.draw.new.self.book, (c.meter.new.self.book, (c.close-hour.result.book, c.close-hour.ensures.state, c.meter.ensures), c.draw.ensures), c.post.ensures);
+      since = (c.draw.new.self.book, (c.meter.new.self.book, (c.close-hour.result.book, c.close-hour.ensures.state, c.meter.ensures), c.draw.ensures.drawing), c.post.ensures.posting);
     } in
     let fits : SFits w64 c.posted_nets.result = record { sfits = c.posted_nets.type_inv } in
     let before = c.meter.new.self.book in
@@ -35,7 +35,7 @@ returns g c =
       trading = (c.new-trading.result.market, c.new-trading.ensures, c.enrol.ensures);
       since = (c.close-hour.result.book, c.close-hour.ensures.state, c.meter.ensures);
     } in
-    let last = posted_last c.args.label traded read before ready shares law c.args.lines.now c.in_ok-slip.slip _ _ c.in_ok-slip.ensures c.draw.result c.post.result in
+    let last = posted_last c.args.label traded read before ready shares law c.args.lines.now c.in_ok-slip.slip _ _ c.in_ok-slip.ensures.drawing c.draw.result c.post.result in
     let due = to_z-of_z fits ∙ (c.posted_nets.ensures.law c.args.label traded lived came).posted_nets_equal_price_times_imbalance in
     record {
       settled = record {

@@ -9,18 +9,18 @@ use Rattle.cases.proofs.late.settle_late_reading.Goals as goal
 
 pub unreachable-requires : goal.unreachable-requires
 unreachable-requires g c =
-    let fits = fresh_fits _ _ _ _ _ _ c.in_ok-first.ensures in
-    not_returned c.draw.new.self.book c.in_ok-first.first _ fits c.in-Err.ensures.answer
+    let fits = fresh_fits _ _ _ _ _ _ c.in_ok-first.ensures.drawing in
+    not_returned c.draw.new.self.book c.in_ok-first.first _ fits c.in-Err.ensures.posting.answer
 
 pub unreachable-requires-in-Err-void : goal.unreachable-requires-in-Err-void
 unreachable-requires-in-Err-void g c =
-    let fits = fresh_fits _ _ _ _ _ _ c.in_ok-second.ensures in
-    not_returned c.draw-2.new.self.book c.in_ok-second.second _ fits c.in-Err-void.ensures.answer
+    let fits = fresh_fits _ _ _ _ _ _ c.in_ok-second.ensures.drawing in
+    not_returned c.draw-2.new.self.book c.in_ok-second.second _ fits c.in-Err-void.ensures.voiding.answer
 
 pub unreachable-requires-in-Err-post : goal.unreachable-requires-in-Err-post
 unreachable-requires-in-Err-post g c =
-    let fits = fresh_fits _ _ _ _ _ _ c.in_ok-third.ensures in
-    not_returned c.draw-3.new.self.book c.in_ok-third.third _ fits c.in-Err-post.ensures.answer
+    let fits = fresh_fits _ _ _ _ _ _ c.in_ok-third.ensures.drawing in
+    not_returned c.draw-3.new.self.book c.in_ok-third.third _ fits c.in-Err-post.ensures.posting.answer
 
 pub returns : goal.returns
 unfolding worked_market worked_book
@@ -48,14 +48,14 @@ returns g c =
             c.post.new.self.book,
             (
               c.draw.new.self.book,
-              (c.in_ok-hour.hour.book, start.came.since, c.draw.ensures),
-              c.post.ensures,
+              (c.in_ok-hour.hour.book, start.came.since, c.draw.ensures.drawing),
+              c.post.ensures.posting,
             ),
             c.meter.ensures,
           ),
-          c.draw-2.ensures,
+          c.draw-2.ensures.drawing,
         ),
-        c.void.ensures,
+        c.void.ensures.voiding,
       );
     } in
     let lived : List Lived =
@@ -65,19 +65,19 @@ returns g c =
     let came : CameBy worked_label traded lived c.post-2.new.self.book = record {
       market = start.came.market;
       trading = start.came.trading;
-      since = (c.draw-3.new.self.book, (before, ready.since, c.draw-3.ensures), c.post-2.ensures);
+      since = (c.draw-3.new.self.book, (before, ready.since, c.draw-3.ensures.drawing), c.post-2.ensures.posting);
     } in
-    let last = posted_last worked_label traded read before ready shares law c.draw-2.new.lines c.in_ok-third.third _ _ c.in_ok-third.ensures c.draw-3.result c.post-2.result in
+    let last = posted_last worked_label traded read before ready shares law c.draw-2.new.lines c.in_ok-third.third _ _ c.in_ok-third.ensures.drawing c.draw-3.result c.post-2.result in
     let fits : SFits w64 c.posted_nets.result = record { sfits = c.posted_nets.type_inv } in
     let due = to_z-of_z fits ∙ (c.posted_nets.ensures.law worked_label traded lived came).posted_nets_equal_price_times_imbalance ∙ ap nets_due last in
     let first_market =
-    post_keeps _ _ _ c.post.new.self.book c.post.ensures
-    ∙ draw_keeps _ _ _ _ c.draw.new.self.book _ c.draw.ensures
+    post_keeps _ _ _ c.post.new.self.book c.post.ensures.posting
+    ∙ draw_keeps _ _ _ _ c.draw.new.self.book _ c.draw.ensures.drawing
     ∙ ap (λ b. b.market) (came_to worked_label worked_trades worked_calls c.in_ok-hour.hour.book start) in
     let last_market =
     ap (λ b. b.market) (sym (came_agrees worked_label traded read before ready))
-    ∙ void_keeps _ _ _ before c.void.ensures
-    ∙ draw_keeps _ _ _ _ c.draw-2.new.self.book _ c.draw-2.ensures
+    ∙ void_keeps _ _ _ before c.void.ensures.voiding
+    ∙ draw_keeps _ _ _ _ c.draw-2.new.self.book _ c.draw-2.ensures.drawing
     ∙ ap (λ b. b.market) c.in_ok-meter.ensures.state
     ∙ ap read_late first_market in
     record {

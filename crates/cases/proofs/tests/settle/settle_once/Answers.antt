@@ -3,5 +3,5 @@ use Rattle.cases.proofs.tests.settle.settle_once.Goals as goal
 
 pub unreachable-requires : goal.unreachable-requires
 unreachable-requires g c =
-    let fits = fresh_fits _ _ _ _ _ _ c.in_ok-slip.ensures in
-    not_returned c.draw.new.self.book c.in_ok-slip.slip _ fits c.in-Err.ensures.answer
+    let fits = fresh_fits _ _ _ _ _ _ c.in_ok-slip.ensures.drawing in
+    not_returned c.draw.new.self.book c.in_ok-slip.slip _ fits c.in-Err.ensures.posting.answer

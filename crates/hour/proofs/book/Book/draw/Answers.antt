@@ -26,7 +26,7 @@ returns-in_err-amounts g c =
     let p = err_from_is_err_and c.from_residual-in_err-amounts.result c.from_residual-in_err-amounts.ensures.1 in
     let said = c.in_err-amounts.ensures.value ∙ ap (λ n. amounts_answer shares n b) c.pool_price-price.ensures.value in
     let done = refused_by_rule shares b c.args.lines.now none_out room read _ said in
-    rw (p.1, p.2) (record { answer = done.answer; state = done.state; writes = done.writes; within = tt })
+    rw (p.1, p.2) (record { drawing = done; within = tt })
 
 pub returns-then-self-ge-MOST_DRAWS : goal.returns-then-self-ge-MOST_DRAWS
 returns-then-self-ge-MOST_DRAWS g c =
@@ -37,7 +37,7 @@ returns-then-self-ge-MOST_DRAWS g c =
     let read : first_unread b.market ≡ None = sym c.unread_asset.ensures ∙ c.in_default.is in
     let said = c.in_ok-amounts.ensures.value ∙ ap (λ n. amounts_answer shares n b) c.pool_price-price.ensures.value in
     let done = refused_draws shares b c.args.lines.now none_out room read c.in_ok-amounts.amounts said (le-leb 1000000 _ c.if-self-ge-MOST_DRAWS.true) in
-    record { answer = done.answer; state = done.state; writes = done.writes; within = tt }
+    record { drawing = done; within = tt }
 
 pub returns-in-Some-beyond_limit : goal.returns-in-Some-beyond_limit
 returns-in-Some-beyond_limit g c =
@@ -54,7 +54,7 @@ returns-in-Some-beyond_limit g c =
     ap (λ n. take n c.run_lines-drawn.result) (omega arith) ∙ lines in
     let spare = lt-leb 1000000 b.draws c.if-self-ge-MOST_DRAWS.false in
     let done = refused_net shares b c.args.lines.now none_out room read c.in_ok-amounts.amounts said c.in-Some-beyond_limit.participant spare (c.in-Some-beyond_limit.ensures ∙ ap first_beyond part) in
-    record { answer = done.answer; state = done.state; writes = done.writes; within = tt }
+    record { drawing = done; within = tt }
 
 pub returns : goal.returns
 returns g c =
@@ -77,8 +77,6 @@ returns g c =
     ∙ ap (λ n. drawn_lines shares b ++ drop n c.args.lines.now) c.list_participants-listing.ensures.count in
     let done = accepted_draw shares b c.args.lines.now none_out room read c.in_ok-amounts.amounts said c.copy_lines.new.lines spare fine written in
     record {
-      answer = ap Ok c.new.ensures ∙ done.answer;
-      state = done.state;
-      writes = done.writes;
+      drawing = record { answer = ap Ok c.new.ensures ∙ done.answer; state = done.state; writes = done.writes };
       within = c.in_ok-amounts.ensures.bound;
     }

@@ -10,4 +10,7 @@ invariant_of-self c =
     record { tables = after.0; offers = after.1.0; readings = after.1.1.0; joined = after.1.1.1.0; posted = after.1.1.1.1.0; drawn = after.1.1.1.1.1.0; whole = after.1.1.1.1.1.1.0 }
 
 pub returns : goal.returns
-returns c = post_words c.args.self.now.book c.args.slip c.post.result _ c.post.ensures.answer c.post.ensures.state
+returns c = record {
+  posting = c.post.ensures;
+  words = post_words c.args.self.now.book c.args.slip c.post.result c.post.new.self c.post.ensures;
+}

@@ -10,4 +10,7 @@ invariant_of-self c =
     record { tables = after.0; offers = after.1.0; readings = after.1.1.0; joined = after.1.1.1.0; posted = after.1.1.1.1.0; drawn = after.1.1.1.1.1.0; whole = after.1.1.1.1.1.1.0 }
 
 pub returns : goal.returns
-returns c = void_words c.args.self.now.book c.args.slip c.void.result _ c.void.ensures.answer c.void.ensures.state
+returns c = record {
+  voiding = c.void.ensures;
+  words = void_words c.args.self.now.book c.args.slip c.void.result c.void.new.self c.void.ensures;
+}

@@ -2,7 +2,7 @@
 use Rattle.std.proofs.Common.{refl, arith}
 use Rattle.std.proofs.lemmas.Int.{ints}
 use Rattle.splitting.specs.Largest.{handed_out}
-use Rattle.splitting.specs.Places.{sum_over, rank}
+use Rattle.splitting.specs.Places.{sum_over}
 use Rattle.splitting.specs.Running.{running}
 use Rattle.cases.specs.Cases.{SumsOfPrices, HalfCents, OneCent}
 

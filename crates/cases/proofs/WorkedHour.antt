@@ -1,5 +1,5 @@
 -- The worked hour, by computation. Assumes nothing.
-use Rattle.std.proofs.Common.{◌≡◌, refl}
+use Rattle.std.proofs.Common.{refl}
 use Rattle.prices.specs.Range.{total, highest, first_place}
 use Rattle.prices.specs.Block.{block_list}
 use Rattle.prices.specs.Asset.{price_in}

@@ -1,5 +1,5 @@
 -- Worked cases of prices, payments, splitting and settled hours, in figures. Assumes nothing.
-use Rattle.std.specs.Prelude.{◌≡◌, ℕ, List, [], ◌∷◌, ℤ, pos, negsuc, neg_ℤ}
+use Rattle.std.specs.Prelude.{◌≡◌, ℕ, [], ◌∷◌, ℤ, pos, neg_ℤ}
 use Rattle.prices.specs.Average.{nearest, Nearest}
 use Rattle.splitting.specs.Largest.{largest}
 use Rattle.splitting.specs.Running.{running}

@@ -1,8 +1,7 @@
-use Rattle.std.proofs.Common.{◌≡◌, List, [], ◌∷◌, ℤ, ap, ◌∙◌, to_z-of_z, w64, SFits, to_z, of_z}
+use Rattle.std.proofs.Common.{List, [], ◌∷◌, ap, ◌∙◌, to_z-of_z, w64, SFits}
 use Rattle.ledger.specs.Trade.{LivedTrade, enrol}
 use Rattle.ledger.specs.Call.{Lived, meter, draw, post}
 use Rattle.ledger.specs.Law.{CameBy, nets_due, ledger_by}
-use Rattle.cases.specs.Client.{Settled}
 use Rattle.cases.proofs.LastPost.{draw_from, posted_last}
 use Rattle.hour.proofs.Slips.{fresh_fits, not_returned}
 use Rattle.cases.proofs.client.settle_one_asset.Goals as goal

@@ -15,19 +15,22 @@ TREE = Path(__file__).resolve().parents[2]
 
 
 def read_edit(path):
-    """The file, the old text and the new text of an edit."""
-    parts = dict(line.split(": ", 1) for line in path.read_text().splitlines() if ": " in line)
-    return parts["file"], parts["old"], parts["new"]
+    """The file of an edit and its pairs of an old and a new text."""
+    lines = [line.split(": ", 1) for line in path.read_text().splitlines() if ": " in line]
+    (name,) = [text for key, text in lines if key == "file"]
+    return name, list(zip((text for key, text in lines if key == "old"), (text for key, text in lines if key == "new")))
 
 
 def try_edit(folder, crate, path):
     """Makes an edit, checks the crate and takes the edit back; gives the verdict and the first message."""
-    name, old, new = read_edit(path)
+    name, pairs = read_edit(path)
     source = folder / "crates" / crate / name
-    before = source.read_text()
-    if before.count(old) != 1:
-        return "BAD EDIT", f"its old text stands {before.count(old)} times in {name}"
-    source.write_text(before.replace(old, new))
+    before = after = source.read_text()
+    for old, new in pairs:
+        if after.count(old) != 1:
+            return "BAD EDIT", f"an old text stands {after.count(old)} times in {name}"
+        after = after.replace(old, new)
+    source.write_text(after)
     try:
         run = subprocess.run(["rt", "check"], cwd=folder / "crates" / crate, capture_output=True, text=True)
     finally:

@@ -1,7 +1,7 @@
 -- What holds of sums, maxima and first places over the numbers below a bound. Assumes nothing.
-use Rattle.std.proofs.Common.{◌≡◌, ℕ, zero, suc, ◌+◌, ◌-◌, ◌<◌, ◌≤◌, max, Bool, true, false, cond, ltb, List, length, get_or, take, Some, None, Option, sym, refl, ap, ◌∙◌, subst, inl, inr, suc-add, zero-add, sub-add_cancel, add-one, arith}
+use Rattle.std.proofs.Common.{◌≡◌, ℕ, zero, suc, ◌+◌, ◌-◌, ◌<◌, ◌≤◌, max, Bool, true, false, cond, ltb, List, [], ◌∷◌, length, get_or, take, Some, None, Option, sym, refl, ap, ◌∙◌, subst, inl, inr, suc-add, zero-add, sub-add_cancel, add-one, arith}
 use native.Mathlib.Numerals.{suc-eq-add-one}
-use Rattle.std.specs.List.{sum_by, position, position_or_len}
+use Rattle.std.specs.List.{sum_by, position, position_or_len, fold, reduce, filter_map, cons_option}
 use Rattle.std.proofs.lemmas.Bool.{cases_eq, cases_lt, cond-true, cond-false, lt-ltb, le-ltb}
 use Rattle.std.proofs.lemmas.List.{take_all}
 use Rattle.std.proofs.lemmas.List.Sums.{sum_by_more, position_or_len_is}
@@ -128,3 +128,35 @@ position_of_least p xs d (Some m) l =
 
 pub first_place_of_list : {A : Type 0} (p : A → Bool) (xs : List A) (d : A) → first_place (λ k. p (get_or xs k d)) (length xs) ≡ position p xs
 first_place_of_list p xs d = position_of_least p xs d _ (first_place_least (λ k. p (get_or xs k d)) (length xs))
+
+-- the highest figure over the places of a list is the greatest of those that its elements give
+higher_none : (x : Option ℕ) → higher x None ≡ x
+higher_none None = refl
+higher_none (Some x) = refl
+
+higher_assoc : (x y z : Option ℕ) → higher (higher x y) z ≡ higher x (higher y z)
+higher_assoc None y z = refl
+higher_assoc (Some x) None z = refl
+higher_assoc (Some x) (Some y) None = refl
+higher_assoc (Some x) (Some y) (Some z) = ap Some (omega arith)
+
+highest_front : (f : ℕ → Option ℕ) (n : ℕ) → highest f (suc n) ≡ higher (f 0) (highest (λ k. f (suc k)) n)
+unfolding highest
+highest_front f zero = sym (higher_none (f 0))
+highest_front f (suc n) = ap (λ h. higher h (f (suc n))) (highest_front f n) ∙ higher_assoc (f 0) (highest (λ k. f (suc k)) n) (f (suc n))
+
+max_over : (x y : ℕ) (ys : List ℕ) → max x (fold max y ys) ≡ fold max (max x y) ys
+max_over x y [] = refl
+max_over x y (z ∷ zs) = max_over x (max y z) zs ∙ ap (λ m. fold max m zs) (omega arith)
+
+higher_reduce : (x : Option ℕ) (ys : List ℕ) → higher x (reduce max ys) ≡ reduce max (cons_option x ys)
+higher_reduce None ys = refl
+higher_reduce (Some x) [] = refl
+higher_reduce (Some x) (y ∷ ys) = ap Some (max_over x y ys)
+
+pub highest_of_list : {A : Type 0} (f : A → Option ℕ) (xs : List A) (d : A) → highest (λ k. f (get_or xs k d)) (length xs) ≡ reduce max (filter_map f xs)
+highest_of_list f [] d = highest_none (λ k. f d)
+highest_of_list f (x ∷ xs) d =
+    highest_front (λ k. f (get_or (x ∷ xs) k d)) (length xs)
+    ∙ ap (higher (f x)) (highest_of_list f xs d)
+    ∙ higher_reduce (f x) (filter_map f xs)

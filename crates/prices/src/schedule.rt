@@ -30,11 +30,10 @@ impl Schedule {
     fn top_price(&self, minute: u32) -> Option<u32>
         ensures { result ≡ top_price self.now minute }
     {
-        let mut top = None;
-        for asset in &self.assets {
-            top = top.max(proposed_price(asset, minute));
-        }
-        top
+        self.assets
+            .iter()
+            .filter_map(|asset| proposed_price(asset, minute))
+            .max()
     }
 
     // System marginal price of a minute.

@@ -27,6 +27,7 @@ impl WriteShares for Running {
 
     fn write_shares(charge: &AcceptedCharge, shares: &mut [u64]) {
         let mut front: u64 = 0;
+        // A zip of the shares with the weights leaves the proof no fact about what it wrote.
         for (place, share) in shares.iter_mut().enumerate() {
             let weight = charge.weight_at(place);
             *share = charge.gain(front, weight);

@@ -5,6 +5,7 @@ use crate::fault::Fault;
 use crate::rule::Apportion;
 
 // One of two rules, chosen at run time.
+// Callers name the two variants, so the enum is this crate's own.
 #[derive(Clone, Copy, Drop)]
 pub enum Either<P, Q> {
     First(P),

@@ -31,7 +31,7 @@ impl Fault {
         }
     }
 
-    // What the fault is about.
+    // What the fault is about; the table of refusals names 0 where it is about no number.
     pub fn subject(self) -> u64
         ensures { result ≡ (refusal self).subject }
     {

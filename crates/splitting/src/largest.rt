@@ -1,13 +1,13 @@
-ghost use Rattle.std.specs.Prelude.{◌≡◌, ◌+◌, ◌<◌, ◌≤◌, ◌&&◌, ◌||◌, ltb, ◌++◌, length, drop, if◌then◌else◌, sum, nat_eq, nat_lt};
+ghost use Rattle.std.specs.Prelude.{◌≡◌, ◌+◌, ◌<◌, ltb, length, if◌then◌else◌};
 ghost use Rattle.splitting.specs.Largest.{largest, larger, leftover, remainder_at, whole_at};
 ghost use Rattle.splitting.specs.Places.{rank};
-ghost use Rattle.splitting.specs.Weights.{Limited};
 ghost use Rattle.splitting.specs.Remainders.{largest_lawful};
 
+use crate::charge::AcceptedCharge;
 use crate::fault::Fault;
-use crate::proportion::{remainder_of, whole_cents};
 use crate::rule::Apportion;
-use crate::weights::accept;
+use crate::write_shares::{WriteShares, split_accepted};
+use std::cmp::Reverse;
 
 // Each place gets its whole cents, and the places with the largest remainders one cent more.
 #[derive(Clone, Copy)]
@@ -19,75 +19,74 @@ impl Apportion for Largest {
     ghost lawful = { λ _. largest_lawful };
 
     fn split(&self, total: u64, weights: &[u32], shares: &mut [u64]) -> Result<(), Fault> {
-        let all = accept(shares.len(), total, weights)?;
-        write_shares(total, weights, all, shares);
-        Ok(())
+        split_accepted::<Largest>(total, weights, shares)
     }
 }
 
-// Writes each place's share.
-fn write_shares(total: u64, weights: &[u32], all: u64, shares: &mut [u64])
-    requires limits { Limited total weights.now }
-    requires sum { all ≡ sum weights.now }
-    requires room { length weights.now ≤ length shares.old }
-    ensures { shares.new ≡ largest total weights.now ++ drop (length weights.now) shares.old }
-{
-    let left = cents_left(total, weights, all);
-    for place in 0..weights.len() {
-        shares[place] = share_at(total, weights, all, left, place);
-    }
-}
+impl WriteShares for Largest {
+    ghost shares_of = { largest };
 
-// A place's whole cents, and one cent more if fewer places come before it than cents are left.
-fn share_at(total: u64, weights: &[u32], all: u64, left: u64, place: usize) -> u64
-    requires limits { Limited total weights.now }
-    requires sum { all ≡ sum weights.now }
-    requires within { place < length weights.now }
-    ensures { result ≡ whole_at total weights.now place + (if ltb (rank (larger total weights.now) (length weights.now) place) left then 1 else 0) }
-{
-    let weight = u64::from(weights[place]);
-    let whole = whole_cents(total, weight, all);
-    let own = remainder_of(total, weight, all);
-    if places_before(total, weights, all, own, place) < left {
-        whole + 1
-    } else {
-        whole
-    }
-}
-
-// The cents that are missing from the total once each place has its whole cents.
-fn cents_left(total: u64, weights: &[u32], all: u64) -> u64
-    requires limits { Limited total weights.now }
-    requires sum { all ≡ sum weights.now }
-    ensures { result ≡ leftover total weights.now }
-{
-    let mut left = total;
-    for weight in weights {
-        left -= whole_cents(total, u64::from(*weight), all);
-    }
-    left
-}
-
-// How many places come before the one with this remainder.
-fn places_before(total: u64, weights: &[u32], all: u64, own: u64, place: usize) -> u64
-    requires limits { Limited total weights.now }
-    requires sum { all ≡ sum weights.now }
-    requires own { own ≡ remainder_at total weights.now place }
-    ensures { result ≡ rank (larger total weights.now) (length weights.now) place }
-{
-    let mut count = 0;
-    for (other, weight) in weights.iter().enumerate() {
-        let remainder = remainder_of(total, u64::from(*weight), all);
-        if comes_before(remainder, other, own, place) {
-            count += 1;
+    fn write_shares(charge: &AcceptedCharge, shares: &mut [u64]) {
+        let left = charge.cents_left();
+        for (place, share) in shares.iter_mut().enumerate() {
+            *share = charge.share_at(left, place);
         }
     }
-    count
 }
 
-// Whether a place comes before another: its remainder is larger, or equal and the place is earlier.
-fn comes_before(remainder: u64, place: usize, other_remainder: u64, other: usize) -> bool
-    ensures { result ≡ (ltb other_remainder remainder || (nat_eq remainder other_remainder && nat_lt place other)) }
-{
-    remainder > other_remainder || remainder == other_remainder && place < other
+impl AcceptedCharge<'_> {
+    // A place's whole cents, and one cent more if fewer places come before it than cents are left.
+    fn share_at(&self, left: u64, place: usize) -> u64
+        requires { place < length self.now.weights.now }
+        ensures { result ≡ whole_at self.now.total self.now.weights.now place + (if ltb (rank (larger self.now.total self.now.weights.now) (length self.now.weights.now) place) left then 1 else 0) }
+    {
+        self.whole_at(place) + u64::from(self.places_before(place) < left)
+    }
+
+    // The whole cents of a place.
+    fn whole_at(&self, place: usize) -> u64
+        requires { place < length self.now.weights.now }
+        ensures { result ≡ whole_at self.now.total self.now.weights.now place }
+    {
+        self.whole_cents(self.weight_at(place))
+    }
+
+    // The remainder of a place.
+    fn remainder_at(&self, place: usize) -> u64
+        requires { place < length self.now.weights.now }
+        ensures { result ≡ remainder_at self.now.total self.now.weights.now place }
+    {
+        self.remainder(self.weight_at(place))
+    }
+
+    // The cents that are missing from the total once each place has its whole cents.
+    fn cents_left(&self) -> u64
+        ensures { result ≡ leftover self.now.total self.now.weights.now }
+    {
+        let given: u64 = self
+            .weights
+            .iter()
+            .map(|weight| self.whole_cents(u64::from(*weight)))
+            .sum();
+        self.total - given
+    }
+
+    // How many places come before this one.
+    fn places_before(&self, place: usize) -> u64
+        requires { place < length self.now.weights.now }
+        ensures { result ≡ rank (larger self.now.total self.now.weights.now) (length self.now.weights.now) place }
+    {
+        let own = self.precedence(place);
+        (0..self.weights.len())
+            .filter(|other| self.precedence(*other) < own)
+            .count() as u64
+    }
+
+    // What orders the places: the larger remainder comes first, and of equal ones the earlier place.
+    fn precedence(&self, place: usize) -> (Reverse<u64>, usize)
+        requires { place < length self.now.weights.now }
+        ensures { (result.0.0 ≡ remainder_at self.now.total self.now.weights.now place) × (result.1 ≡ place) }
+    {
+        (Reverse(self.remainder_at(place)), place)
+    }
 }

@@ -1,16 +1,17 @@
 //! Splitting a charge in whole cents over weights in kWh.
 #![tactic(auto)]
 
+mod charge;
 mod either;
 mod fault;
 mod figures;
 mod largest;
-mod proportion;
 mod rule;
 mod running;
 #[cfg(test)]
 mod tests;
 mod weights;
+mod write_shares;
 
 pub use either::Either;
 pub use fault::Fault;

@@ -10,6 +10,7 @@ const MOST_KWH: u64 = 64_000_000;
 const MOST_CENTS: u64 = 10_000_000_000;
 
 // The sum of the weights, counted no further than one past the limit.
+// The project asks for this form: a `for` over the slice with a bounded running sum.
 pub fn weigh(weights: &[u32]) -> u64
     ensures { result ≡ min (sum weights.now) 64000001 }
 {

@@ -6,6 +6,18 @@ use Rattle.std.proofs.lemmas.List.FromFn.{sum_by-map-range_with_len_more}
 use Rattle.std.proofs.lemmas.Bool.{cases_lt}
 use Rattle.splitting.specs.Places.{sum_over, how_many}
 
+pub sum_over_none : (f : ℕ → ℕ) → sum_over f 0 ≡ 0
+unfolding sum_over
+sum_over_none f = refl
+
+pub sum_over_more : (f : ℕ → ℕ) (n : ℕ) → sum_over f (n + 1) ≡ sum_over f n + f n
+unfolding sum_over
+sum_over_more f n = rw add-one refl
+
+-- one place more, with the answer of its test
+pub how_many_more : (p : ℕ → Bool) (n : ℕ) (b : Bool) → b ≡ p n → how_many p (n + 1) ≡ how_many p n + cond b 1 0
+how_many_more p n b e = sum_over_more (λ i. cond (p i) 1 0) n ∙ ap (λ t. how_many p n + cond t 1 0) (sym e)
+
 pub sum_over_same : (f g : ℕ → ℕ) (n : ℕ) → ((i : ℕ) → i < n → f i ≡ g i) → sum_over f n ≡ sum_over g n
 unfolding sum_over
 sum_over_same f g zero h = refl

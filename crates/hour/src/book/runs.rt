@@ -9,10 +9,11 @@ use crate::book::Book;
 use crate::fault::Fault;
 use crate::figure::unread_asset;
 use crate::line::Line;
-use crate::lines::{beyond_limit, run_lines};
+use crate::lines::{Change, beyond_limit};
 use crate::listing::list_participants;
-use crate::run::{Run, new_amounts};
+use crate::run::Run;
 use crate::slip::{Returned, Slip};
+use crate::valuation::Valuation;
 use splitting::Apportion;
 
 // The most draws that an hour accepts.
@@ -36,11 +37,20 @@ impl Book {
             return Err(Fault::ReadingMissing(asset));
         }
         let price = self.market.schedule.pool_price().0;
-        let amounts = new_amounts(rule, price, self)?;
+        let valuation = Valuation {
+            price,
+            book: self,
+            participants: participants.as_slice(),
+        };
+        let amounts = valuation.new_amounts(rule)?;
         if self.draws >= MOST_DRAWS {
             return Err(Fault::DrawsUsedUp);
         }
-        let drawn = run_lines(participants.as_slice(), &amounts, &self.posted);
+        let change = Change {
+            amounts: &amounts,
+            posted: &self.posted,
+        };
+        let drawn = change.lines(&participants);
         if let Some(participant) = beyond_limit(drawn.as_slice()) {
             return Err(Fault::NetTooLarge(participant));
         }

@@ -10,10 +10,11 @@ use Rattle.hour.proofs.Outcomes.{passed}
 use Rattle.hour.proofs.Drawings.{all_lines, amounts_given, refused_by_rule, refused_draws, refused_net, accepted_draw}
 use Rattle.hour.proofs.book.Book.draw.Goals as goal
 
-pub new_amounts-requires : goal.new_amounts-requires
-new_amounts-requires g c = record {
-  price = subst (λ n. n ≤ 100000) (sym c.pool_price-price.ensures.value) (pool_limit c.args.self.now.market.schedule c.requires.ranged.0);
+pub invariant_of-valuation : goal.invariant_of-valuation
+invariant_of-valuation g c = record {
+  price_limit = subst (λ n. n ≤ 100000) (sym c.pool_price-price.ensures.value) (pool_limit c.args.self.now.market.schedule c.requires.ranged.0);
   ranged = c.requires.ranged;
+  listed = c.as_slice.ensures.value ∙ c.list_participants-participants.ensures;
 }
 
 pub returns-in_err-amounts : goal.returns-in_err-amounts
@@ -48,8 +49,8 @@ returns-in-Some-beyond_limit g c =
     let read : first_unread b.market ≡ None = sym c.unread_asset.ensures ∙ c.in_default.is in
     let said = c.in_ok-amounts.ensures.value ∙ ap (λ n. amounts_answer shares n b) c.pool_price-price.ensures.value in
     let given = amounts_given shares (price_of b) b c.in_ok-amounts.amounts said in
-    let lines : c.run_lines-drawn.result.items ≡ drawn_lines shares b =
-    c.run_lines-drawn.ensures ∙ all_lines c.in_ok-amounts.amounts b.posted b.market c.as_slice.result.now (c.as_slice.ensures.value ∙ c.list_participants-participants.ensures) ∙ ap (λ xs. lines_of xs b.posted b.market) given in
+    let lines : c.lines-drawn.result.items ≡ drawn_lines shares b =
+    c.lines-drawn.ensures ∙ all_lines c.in_ok-amounts.amounts b.posted b.market c.list_participants-participants.result.items c.list_participants-participants.ensures ∙ ap (λ xs. lines_of xs b.posted b.market) given in
     let part : c.as_slice-2.result.now ≡ drawn_lines shares b = c.as_slice-2.ensures.value ∙ lines in
     let spare = lt-leb 1000000 b.draws c.if-self-ge-MOST_DRAWS.false in
     let done = refused_net shares b c.args.lines.now none_out room read c.in_ok-amounts.amounts said c.in-Some-beyond_limit.participant spare (c.in-Some-beyond_limit.ensures ∙ ap first_beyond part) in
@@ -64,8 +65,8 @@ returns g c =
     let read : first_unread b.market ≡ None = sym c.unread_asset.ensures ∙ c.in_default.is in
     let said = c.in_ok-amounts.ensures.value ∙ ap (λ n. amounts_answer shares n b) c.pool_price-price.ensures.value in
     let given = amounts_given shares (price_of b) b c.in_ok-amounts.amounts said in
-    let lines : c.run_lines-drawn.result.items ≡ drawn_lines shares b =
-    c.run_lines-drawn.ensures ∙ all_lines c.in_ok-amounts.amounts b.posted b.market c.as_slice.result.now (c.as_slice.ensures.value ∙ c.list_participants-participants.ensures) ∙ ap (λ xs. lines_of xs b.posted b.market) given in
+    let lines : c.lines-drawn.result.items ≡ drawn_lines shares b =
+    c.lines-drawn.ensures ∙ all_lines c.in_ok-amounts.amounts b.posted b.market c.list_participants-participants.result.items c.list_participants-participants.ensures ∙ ap (λ xs. lines_of xs b.posted b.market) given in
     let part : c.as_slice-2.result.now ≡ drawn_lines shares b = c.as_slice-2.ensures.value ∙ lines in
     let spare = lt-leb 1000000 b.draws c.if-self-ge-MOST_DRAWS.false in
     let fine : None ≡ first_beyond (drawn_lines shares b) = c.in_default-beyond_limit.ensures ∙ ap first_beyond part in

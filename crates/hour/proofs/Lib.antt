@@ -1,5 +1,6 @@
 pub mod Tables
 pub mod Sums
+pub mod Places
 pub mod Outcomes
 pub mod Soundness
 pub mod Limits

@@ -30,11 +30,10 @@ fn matched_kwh(instructions: &[Instruction; 64], asset: u32) -> u64
     ensures value { result ≡ matched_kwh instructions.now asset }
     ensures bound { result ≤ 64000000 }
 {
-    let mut sum: u64 = 0;
-    for place in 0..64 {
-        sum += u64::from(instructions[place].matched_kwh(asset));
-    }
-    sum
+    instructions
+        .iter()
+        .map(|instruction| u64::from(instruction.matched_kwh(asset)))
+        .sum()
 }
 
 // A figure of an enrolled asset.
@@ -103,11 +102,9 @@ impl Valuation<'_> {
         ensures value { result ≡ figure_of figure self.now.price self.now.book.now participant }
         ensures bound { result ≤ 64 * largest_figure }
     {
-        let mut sum: u64 = 0;
-        for place in 0..64 {
-            sum += self.owned_figure(figure, participant, place);
-        }
-        sum
+        (0..64)
+            .map(|place| self.owned_figure(figure, participant, place))
+            .sum()
     }
 }
 
@@ -115,12 +112,7 @@ impl Valuation<'_> {
 pub fn is_listed(market: &Market, participant: u32) -> bool
     ensures { result ≡ listed market.now participant }
 {
-    for place in 0..64 {
-        if is_owned(market, participant, place) {
-            return true;
-        }
-    }
-    false
+    (0..64).any(|place| is_owned(market, participant, place))
 }
 
 // Whether the asset at a place is enrolled and has no reading.
@@ -137,10 +129,5 @@ fn is_unread(market: &Market, place: usize) -> bool
 pub fn unread_asset(market: &Market) -> Option<u32>
     ensures { result ≡ first_unread market.now }
 {
-    for place in 0..64 {
-        if is_unread(market, place) {
-            return Some(place as u32 + 1);
-        }
-    }
-    None
+    (1..65).find(|asset| is_unread(market, *asset as usize - 1))
 }

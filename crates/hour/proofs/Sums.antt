@@ -1,7 +1,6 @@
 -- Sums and counts over the numbers below a bound. Assumes nothing.
-use Rattle.std.proofs.Common.{◌≡◌, ℕ, zero, suc, ◌+◌, ◌*◌, ◌<◌, ◌≤◌, Bool, true, cond, sym, subst, inl, inr, suc-mul, arith}
-use Rattle.std.proofs.lemmas.Bool.{cases_eq, cond-true}
-use Rattle.prices.specs.Range.{total, count}
+use Rattle.std.proofs.Common.{ℕ, zero, suc, ◌*◌, ◌<◌, ◌≤◌, suc-mul, arith}
+use Rattle.prices.specs.Range.{total}
 
 -- a sum of figures that are at most m
 pub total_le : (f : ℕ → ℕ) (m n : ℕ) → ((k : ℕ) → k < n → f k ≤ m) → total f n ≤ n * m

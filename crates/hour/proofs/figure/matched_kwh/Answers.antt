@@ -1,4 +1,4 @@
-use Rattle.std.proofs.Common.{◌≡◌, ◌≤◌, length, sym, ◌∙◌, subst, arith, rules}
+use Rattle.std.proofs.Common.{◌≡◌, ◌≤◌, length, ◌∙◌, arith, rules}
 use Rattle.std.specs.List.{sum_by}
 use Rattle.hour.specs.Figure.{matched_by, matched_kwh}
 use Rattle.hour.proofs.Limits.{matched_all, matched_limit}

@@ -1,11 +1,12 @@
 pub mod Tables
 pub mod Sums
+pub mod Places
 pub mod Outcomes
 pub mod Soundness
-pub mod Leading
 pub mod Limits
 pub mod Listings
 pub mod Charges
+pub mod Spreading
 pub mod Runs
 pub mod Drawings
 pub mod TradeSteps

@@ -9,7 +9,7 @@ use crate::fault::Fault;
 use crate::instruction::{Event, Instruction, Terms};
 use crate::line::Amounts;
 use crate::market::Market;
-use crate::number::{check_participant, place_of};
+use crate::number::{ASSETS, INSTRUCTIONS, PARTICIPANTS, place_of};
 use crate::run::Run;
 
 mod runs;
@@ -82,7 +82,7 @@ impl Book {
         ensures state { self.new ≡ outcome result (metered self.old asset kwh) self.old }
     {
         self.check_none_out()?;
-        let place = place_of(asset)?;
+        let place = place_of::<ASSETS>(asset)?;
         if self.market.schedule.assets[place].is_none() {
             return Err(Fault::NotEnrolled(asset));
         }
@@ -100,9 +100,9 @@ impl Book {
         ensures state { self.new ≡ outcome result (proposed self.old number source sink kwh) self.old }
     {
         self.check_none_out()?;
-        let place = place_of(number)?;
-        let from = place_of(source)?;
-        let to = place_of(sink)?;
+        let place = place_of::<INSTRUCTIONS>(number)?;
+        let from = place_of::<ASSETS>(source)?;
+        let to = place_of::<ASSETS>(sink)?;
         let Some(supplier) = self.market.schedule.assets[from] else {
             return Err(Fault::NotEnrolled(source));
         };
@@ -129,8 +129,8 @@ impl Book {
         ensures state { self.new ≡ outcome result (confirmed self.old number) self.old }
     {
         self.check_none_out()?;
-        let place = place_of(number)?;
-        check_participant(participant)?;
+        let place = place_of::<INSTRUCTIONS>(number)?;
+        place_of::<PARTICIPANTS>(participant)?;
         let current = self.instructions[place];
         let Some(next) = current.next(Event::Confirm) else {
             return Err(Fault::WrongStage(number));
@@ -148,8 +148,8 @@ impl Book {
         ensures state { self.new ≡ outcome result (withdrawn self.old number) self.old }
     {
         self.check_none_out()?;
-        let place = place_of(number)?;
-        check_participant(participant)?;
+        let place = place_of::<INSTRUCTIONS>(number)?;
+        place_of::<PARTICIPANTS>(participant)?;
         let current = self.instructions[place];
         let Some(next) = current.next(Event::Withdraw) else {
             return Err(Fault::WrongStage(number));

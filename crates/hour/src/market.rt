@@ -7,7 +7,7 @@ use crate::blocks::sound_list;
 use crate::fault::Fault;
 use crate::kind::kind_of;
 use crate::minute::{levels_from, marks_between};
-use crate::number::{check_participant, place_of};
+use crate::number::{ASSETS, PARTICIPANTS, place_of};
 use crate::record::Record;
 use margins::whole_offer;
 use prices::{Asset, Block, Schedule};
@@ -44,9 +44,9 @@ impl Market {
         ensures answer { result ≡ answer (enrol_reasons self.old asset letter owner) }
         ensures state { self.new ≡ outcome result (enrolled self.old asset letter owner) self.old }
     {
-        let place = place_of(asset)?;
+        let place = place_of::<ASSETS>(asset)?;
         let kind = kind_of(letter)?;
-        check_participant(owner)?;
+        place_of::<PARTICIPANTS>(owner)?;
         if self.schedule.assets[place].is_some() {
             return Err(Fault::EnrolledAlready(asset));
         }
@@ -68,7 +68,7 @@ impl Market {
         ensures answer { result ≡ answer (offer_reasons self.old asset blocks.now) }
         ensures state { self.new ≡ outcome result (offered_blocks self.old asset blocks.now) self.old }
     {
-        let place = place_of(asset)?;
+        let place = place_of::<ASSETS>(asset)?;
         let Some(mut entry) = self.schedule.assets[place] else {
             return Err(Fault::NotEnrolled(asset));
         };
@@ -89,7 +89,7 @@ impl Market {
         ensures answer { result ≡ answer (order_reasons self.old asset minute level) }
         ensures state { self.new ≡ outcome result (ordered self.old asset minute level) self.old }
     {
-        let place = place_of(asset)?;
+        let place = place_of::<ASSETS>(asset)?;
         let Some(mut entry) = self.schedule.assets[place] else {
             return Err(Fault::NotEnrolled(asset));
         };

@@ -6,7 +6,7 @@ ghost use Rattle.hour.specs.declared.fault.Fault.TheVariants.{WrongMinute};
 ghost use Rattle.hour.specs.Question.{SetterAnswer, TallyAnswer, enrolled_owner};
 
 use crate::fault::Fault;
-use crate::number::place_of;
+use crate::number::{ASSETS, place_of};
 use crate::priced::PricedHour;
 
 impl PricedHour {
@@ -54,7 +54,7 @@ impl PricedHour {
     pub fn owner(&self, asset: u32) -> Option<u32>
         ensures { result ≡ enrolled_owner self.now.book.market asset }
     {
-        let Ok(place) = place_of(asset) else {
+        let Ok(place) = place_of::<ASSETS>(asset) else {
             return None;
         };
         if self.book.market.schedule.assets[place].is_none() {

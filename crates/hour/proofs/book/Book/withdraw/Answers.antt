@@ -13,7 +13,7 @@ returns-in_default c =
     let none_out : is_some b.out ≡ false = passed _ _ _ _ c.in_ok-check_none_out.ensures in
     let inside : outside 1 64 c.args.number ≡ false = passed _ _ _ _ c.in_ok-place.ensures.value in
     let place : c.in_ok-place.place ≡ c.args.number - 1 = passed_value _ _ _ _ c.in_ok-place.ensures.value in
-    let party : outside 1 32 c.args.participant ≡ false = passed _ _ _ _ c.in_ok-check_participant.ensures in
+    let party : outside 1 32 c.args.participant ≡ false = passed _ _ _ _ c.in_ok-place_of.ensures.value in
     let unfit : misplaced b c.args.number Withdraw ≡ true = ap (λ p. not (is_some (next_stage (instruction_at b p) Withdraw))) (sym place) ∙ ap (λ o. not (is_some o)) (sym c.in_default.ensures) in
     record { answer = refused_at 3 (withdraw_reasons b c.args.number c.args.participant) (Ok tt) (none_out, (inside, (party, unfit))); state = refl }
 
@@ -32,11 +32,11 @@ returns-in_err-place c =
     let stop = failed _ _ _ _ c.in_err-place.ensures.value in
     rw (p.1, p.2) (record { answer = ap Err stop.1 ∙ refused_at 1 (withdraw_reasons b c.args.number c.args.participant) (Ok tt) (none_out, stop.0); state = refl })
 
-pub returns-in_err-check_participant : goal.returns-in_err-check_participant
-returns-in_err-check_participant c =
+pub returns-in_err-place_of : goal.returns-in_err-place_of
+returns-in_err-place_of c =
     let b = c.args.self.now in
     let none_out : is_some b.out ≡ false = passed _ _ _ _ c.in_ok-check_none_out.ensures in
     let inside : outside 1 64 c.args.number ≡ false = passed _ _ _ _ c.in_ok-place.ensures.value in
-    let p = err_from_is_err_and c.from_residual-in_err-check_participant.result c.from_residual-in_err-check_participant.ensures.1 in
-    let stop = failed _ _ _ _ c.in_err-check_participant.ensures in
+    let p = err_from_is_err_and c.from_residual-in_err-place_of.result c.from_residual-in_err-place_of.ensures.1 in
+    let stop = failed _ _ _ _ c.in_err-place_of.ensures.value in
     rw (p.1, p.2) (record { answer = ap Err stop.1 ∙ refused_at 2 (withdraw_reasons b c.args.number c.args.participant) (Ok tt) (none_out, (inside, stop.0)); state = refl })

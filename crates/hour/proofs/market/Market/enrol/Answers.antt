@@ -17,7 +17,7 @@ returns c =
     let place : c.in_ok-place.place ≡ c.args.asset - 1 = passed_value _ _ _ _ c.in_ok-place.ensures.value in
     let inside : outside 1 64 c.args.asset ≡ false = passed _ _ _ _ c.in_ok-place.ensures.value in
     let letter = known (stands_for_kind c.args.letter) c.in_ok-kind.kind (kind_of c.args.letter) _ c.in_ok-kind.ensures in
-    let owner : outside 1 32 c.args.owner ≡ false = passed _ _ _ _ c.in_ok-check_participant.ensures in
+    let owner : outside 1 32 c.args.owner ≡ false = passed _ _ _ _ c.in_ok-place_of.ensures.value in
     let free : is_some (asset_at m (c.args.asset - 1)) ≡ false = ap (λ p. is_some (asset_at m p)) (sym place) ∙ sym c.if-is_some.ensures in
     record {
       answer = goes_on (enrol_reasons m c.args.asset c.args.letter c.args.owner) (Ok tt) (inside, (letter.0, (owner, (free, tt))));
@@ -46,11 +46,11 @@ returns-in_err-kind c =
     let stop = unknown (stands_for_kind c.args.letter) (kind_of c.args.letter) _ _ c.in_err-kind.ensures in
     rw (p.1, p.2) (record { answer = ap Err stop.1 ∙ refused_at 1 (enrol_reasons b c.args.asset c.args.letter c.args.owner) (Ok tt) (inside, stop.0); state = refl })
 
-pub returns-in_err-check_participant : goal.returns-in_err-check_participant
-returns-in_err-check_participant c =
+pub returns-in_err-place_of : goal.returns-in_err-place_of
+returns-in_err-place_of c =
     let b = c.args.self.now in
     let inside : outside 1 64 c.args.asset ≡ false = passed _ _ _ _ c.in_ok-place.ensures.value in
     let letter = known (stands_for_kind c.args.letter) c.in_ok-kind.kind (kind_of c.args.letter) _ c.in_ok-kind.ensures in
-    let p = err_from_is_err_and c.from_residual-in_err-check_participant.result c.from_residual-in_err-check_participant.ensures.1 in
-    let stop = failed _ _ _ _ c.in_err-check_participant.ensures in
+    let p = err_from_is_err_and c.from_residual-in_err-place_of.result c.from_residual-in_err-place_of.ensures.1 in
+    let stop = failed _ _ _ _ c.in_err-place_of.ensures.value in
     rw (p.1, p.2) (record { answer = ap Err stop.1 ∙ refused_at 2 (enrol_reasons b c.args.asset c.args.letter c.args.owner) (Ok tt) (inside, (letter.0, stop.0)); state = refl })

@@ -1,8 +1,7 @@
-ghost use Rattle.std.specs.Prelude.{◌≡◌, ◌-◌, not, is_some, if◌then◌else◌, Ok, Err};
+ghost use Rattle.std.specs.Prelude.{◌≡◌, ◌≤◌, not, is_some, if◌then◌else◌, Ok, Err, ◌==◌};
 ghost use Rattle.hour.specs.declared.fault.Fault.TheVariants.{RunOut};
 ghost use Rattle.hour.specs.Reason.{answer, outside};
 ghost use Rattle.hour.specs.Market.{outcome, record_at};
-ghost use Rattle.hour.specs.Instruction.{terms_of};
 ghost use Rattle.hour.specs.Book.{new_book, run_number, meter_reasons, metered, propose_reasons, proposed, confirm_reasons, confirmed, withdraw_reasons, withdrawn, owner_of};
 
 use crate::fault::Fault;
@@ -66,14 +65,13 @@ impl Book {
         }
     }
 
-    // Owner of an asset by its number, 0 if there is none.
-    fn owner_of(&self, asset: u32) -> u32
-        ensures { result ≡ owner_of self.now.market asset }
+    // Whether a participant owns an asset; nobody owns one past the end of the table.
+    fn is_owner(&self, participant: u32, asset: u32) -> bool
+        requires { 1 ≤ participant }
+        ensures { result ≡ (participant == owner_of self.now.market asset) }
     {
-        match self.market.records.get(asset.saturating_sub(1) as usize) {
-            Some(record) => record.owner,
-            None => 0,
-        }
+        let record = self.market.records.get(asset.saturating_sub(1) as usize);
+        record.is_some_and(|record| record.owner == participant)
     }
 
     // Sets an asset's reading in place of its earlier one.
@@ -132,10 +130,10 @@ impl Book {
         let place = place_of::<INSTRUCTIONS>(number)?;
         place_of::<PARTICIPANTS>(participant)?;
         let current = self.instructions[place];
-        let Some(next) = current.next(Event::Confirm) else {
+        let (Some(terms), Some(next)) = (current.terms(), current.next(Event::Confirm)) else {
             return Err(Fault::WrongStage(number));
         };
-        if participant != self.owner_of(current.terms().sink) {
+        if !self.is_owner(participant, terms.sink) {
             return Err(Fault::WrongParty(participant));
         }
         self.instructions[place] = next;
@@ -151,11 +149,10 @@ impl Book {
         let place = place_of::<INSTRUCTIONS>(number)?;
         place_of::<PARTICIPANTS>(participant)?;
         let current = self.instructions[place];
-        let Some(next) = current.next(Event::Withdraw) else {
+        let (Some(terms), Some(next)) = (current.terms(), current.next(Event::Withdraw)) else {
             return Err(Fault::WrongStage(number));
         };
-        let terms = current.terms();
-        if participant != self.owner_of(terms.source) && participant != self.owner_of(terms.sink) {
+        if !self.is_owner(participant, terms.source) && !self.is_owner(participant, terms.sink) {
             return Err(Fault::WrongParty(participant));
         }
         self.instructions[place] = next;

@@ -13,7 +13,6 @@ mod line;
 mod lines;
 mod listing;
 mod market;
-mod minute;
 mod number;
 mod priced;
 mod record;

@@ -6,7 +6,6 @@ ghost use Rattle.hour.specs.Market.{ordered, shed as marked_span};
 use crate::blocks::sound_list;
 use crate::fault::Fault;
 use crate::kind::kind_of;
-use crate::minute::{levels_from, marks_between};
 use crate::number::{ASSETS, PARTICIPANTS, place_of};
 use crate::record::Record;
 use margins::whole_offer;
@@ -31,11 +30,7 @@ impl Market {
                 assets: [None; 64],
                 marked: [false; 60],
             },
-            records: [Record {
-                owner: 0,
-                ordered: None,
-                reading: None,
-            }; 64],
+            records: [Record::default(); 64],
         }
     }
 
@@ -57,8 +52,7 @@ impl Market {
         });
         self.records[place] = Record {
             owner,
-            ordered: None,
-            reading: None,
+            ..Record::default()
         };
         Ok(())
     }
@@ -69,7 +63,7 @@ impl Market {
         ensures state { self.new ≡ outcome result (offered_blocks self.old asset blocks.now) self.old }
     {
         let place = place_of::<ASSETS>(asset)?;
-        let Some(mut entry) = self.schedule.assets[place] else {
+        let Some(entry) = &mut self.schedule.assets[place] else {
             return Err(Fault::NotEnrolled(asset));
         };
         let ordered = self.records[place].ordered;
@@ -80,37 +74,33 @@ impl Market {
             return Err(Fault::UnsoundBlocks(asset));
         };
         entry.offer = Some(list);
-        self.schedule.assets[place] = Some(entry);
         Ok(())
     }
 
     // Sets an asset's level from a minute to the end of the hour.
+    #[tactic(auto, using(crate::proofs::Minutes::levels_written))]
     pub fn order(&mut self, asset: u32, minute: u32, level: u32) -> Result<(), Fault>
         ensures answer { result ≡ answer (order_reasons self.old asset minute level) }
         ensures state { self.new ≡ outcome result (ordered self.old asset minute level) self.old }
     {
         let place = place_of::<ASSETS>(asset)?;
-        let Some(mut entry) = self.schedule.assets[place] else {
+        let Some(entry) = &mut self.schedule.assets[place] else {
             return Err(Fault::NotEnrolled(asset));
         };
-        let record = self.records[place];
-        if minute > 59 || minute < record.ordered.unwrap_or(0) {
+        let record = &mut self.records[place];
+        if minute > 59 || record.ordered.is_some_and(|latest| minute < latest) {
             return Err(Fault::WrongMinute(minute));
         }
-        if entry.blocks().is_empty() || u64::from(level) > whole_offer(&entry) {
+        if entry.blocks().is_empty() || u64::from(level) > whole_offer(entry) {
             return Err(Fault::LevelTooHigh(asset));
         }
-        entry.levels = levels_from(&entry.levels, minute, level);
-        self.schedule.assets[place] = Some(entry);
-        self.records[place] = Record {
-            owner: record.owner,
-            ordered: Some(minute),
-            reading: record.reading,
-        };
+        entry.levels[minute as usize..].fill(level);
+        record.ordered = Some(minute);
         Ok(())
     }
 
     // Marks the minutes from first to end - 1.
+    #[tactic(auto, using(crate::proofs::Minutes::marks_written))]
     pub fn shed(&mut self, first: u32, end: u32) -> Result<(), Fault>
         ensures answer { result ≡ answer (shed_reasons first end) }
         ensures state { self.new ≡ outcome result (marked_span self.old first end) self.old }
@@ -118,7 +108,7 @@ impl Market {
         if first >= end || end > 60 {
             return Err(Fault::WrongMinute(end));
         }
-        self.schedule.marked = marks_between(&self.schedule.marked, first, end);
+        self.schedule.marked[first as usize..end as usize].fill(true);
         Ok(())
     }
 }

@@ -66,8 +66,7 @@ impl Market {
         let Some(entry) = &mut self.schedule.assets[place] else {
             return Err(Fault::NotEnrolled(asset));
         };
-        let ordered = self.records[place].ordered;
-        if ordered.is_some() {
+        if self.records[place].ordered.is_some() {
             return Err(Fault::OfferAfterOrder(asset));
         }
         let Some(list) = sound_list(entry.kind, blocks) else {

@@ -9,7 +9,7 @@ mod calls;
 // An hour that is open for trading.
 #[derive(Drop)]
 pub struct TradingHour {
-    market: Market,
+    pub(crate) market: Market,
     ghost tables: { FullTables market },
     ghost offers: { (k j : ℕ) → price_at (blocks_at market k) j ≤ 99999 },
     ghost unread: { (k : ℕ) → is_some (record_at market k).reading ≡ false },

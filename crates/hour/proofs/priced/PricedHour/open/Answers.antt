@@ -14,10 +14,11 @@ all_free assets (suc n) (suc k) = all_free assets n k
 
 pub invariant_of-result : goal.invariant_of-result
 invariant_of-result c =
-    let m = c.args.market in
+    let h = c.args.trading in
+    let m = h.market in
     let kept : Kept (new_book m) = (
-      (c.requires.tables.0, c.requires.tables.1, c.requires.tables.2, refl, refl),
-      (c.requires.offers, (λ k. unread_small _ (c.requires.unread k), (λ k. all_free m.schedule.assets 64 k, (none_within 32, (λ k item. nothing_within item, (refl, tt)))))),
+      (h.tables.0, h.tables.1, h.tables.2, refl, refl),
+      (h.offers, (λ k. unread_small _ (h.unread k), (λ k. all_free m.schedule.assets 64 k, (none_within 32, (λ k item. nothing_within item, (refl, tt)))))),
     ) in
     let after : Kept c.new.result = subst Kept (sym c.new.ensures) kept in
     record { tables = after.0; offers = after.1.0; readings = after.1.1.0; joined = after.1.1.1.0; posted = after.1.1.1.1.0; drawn = after.1.1.1.1.1.0; whole = after.1.1.1.1.1.1.0 }

@@ -8,7 +8,6 @@ mod charge;
 mod fault;
 mod figure;
 mod instruction;
-mod kind;
 mod line;
 mod lines;
 mod listing;

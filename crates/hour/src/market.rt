@@ -5,11 +5,10 @@ ghost use Rattle.hour.specs.Market.{ordered, shed as marked_span};
 
 use crate::blocks::sound_list;
 use crate::fault::Fault;
-use crate::kind::kind_of;
 use crate::number::{ASSETS, PARTICIPANTS, place_of};
 use crate::record::Record;
 use margins::whole_offer;
-use prices::{Asset, Block, Schedule};
+use prices::{Asset, Block, Kind, Schedule};
 
 // The tables of an hour that trading fills: the label, the schedule, and a record of each asset by number less one.
 #[derive(Drop)]
@@ -40,7 +39,7 @@ impl Market {
         ensures state { self.new ≡ outcome result (enrolled self.old asset letter owner) self.old }
     {
         let place = place_of::<ASSETS>(asset)?;
-        let kind = kind_of(letter)?;
+        let kind = Kind::try_from(letter)?;
         place_of::<PARTICIPANTS>(owner)?;
         if self.schedule.assets[place].is_some() {
             return Err(Fault::EnrolledAlready(asset));

@@ -1,9 +1,9 @@
 pub mod Tables
 pub mod Minutes
 pub mod Sums
+pub mod Places
 pub mod Outcomes
 pub mod Soundness
-pub mod Leading
 pub mod Limits
 pub mod Listings
 pub mod Charges

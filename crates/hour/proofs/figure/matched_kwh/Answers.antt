@@ -1,21 +1,19 @@
-use Rattle.std.proofs.Common.{rules}
-use Rattle.prices.proofs.Ranges.{total_more, total_none}
-use Rattle.hour.specs.Figure.{matched_kwh}
+use Rattle.std.proofs.Common.{◌≡◌, ◌≤◌, length, sym, ◌∙◌, subst, arith, rules}
+use Rattle.std.specs.List.{sum_by}
+use Rattle.hour.specs.Figure.{matched_by, matched_kwh}
+use Rattle.hour.proofs.Limits.{matched_all, matched_limit}
 use Rattle.hour.proofs.figure.matched_kwh.Goals as goal
 
-pub loop-place-init : goal.loop-place-init
-loop-place-init c = search (rules, total_none)
-
-pub loop-place-preserved : goal.loop-place-preserved
-loop-place-preserved c =
-    let small = c.requires c.loop-place.place in
-    search (rules, total_more)
-
-pub overflow_add-sum : goal.overflow_add-sum
-overflow_add-sum c =
-    let small = c.requires c.loop-place.place in
+pub sum-requires-clause-fits : goal.sum-requires-clause-fits
+sum-requires-clause-fits c =
+    let long : length c.args.instructions.now ≡ 64 = search rules in
+    let all = matched_all c.args.instructions.now c.args.asset long in
+    let small : sum_by (λ i. matched_by i c.args.asset) c.args.instructions.now ≤ 64000000 = omega (arith, all, matched_limit c.args.instructions.now c.args.asset c.requires) in
     search rules
 
 pub returns : goal.returns
-unfolding matched_kwh
-returns c = search rules
+returns c =
+    let long : length c.args.instructions.now ≡ 64 = search rules in
+    let summed : c.sum.result ≡ sum_by (λ i. matched_by i c.args.asset) c.args.instructions.now = search rules in
+    let value : c.sum.result ≡ matched_kwh c.args.instructions.now c.args.asset = summed ∙ matched_all c.args.instructions.now c.args.asset long in
+    record { value = value; bound = omega (arith, value, matched_limit c.args.instructions.now c.args.asset c.requires) }

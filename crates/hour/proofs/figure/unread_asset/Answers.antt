@@ -1,26 +1,28 @@
-use Rattle.std.proofs.Common.{◌≡◌, suc, true, false, Some, None, sym, ap, ◌∙◌, subst, add-one, arith, rules}
+use Rattle.std.proofs.Common.{◌≡◌, ℕ, suc, ◌+◌, ◌-◌, Some, None, Option, sym, refl, ◌∙◌, arith, rules}
+use borrow.Author.Tests.{tests}
+use Rattle.std.specs.List.{range_with_len, find}
 use Rattle.std.specs.Option.{option_map}
+use Rattle.std.proofs.lemmas.Iterator.{YieldsList-from_range}
+use Rattle.std.proofs.lemmas.Iterator.Search.{find_from_yields_List}
 use Rattle.prices.specs.Range.{first_place}
-use Rattle.prices.proofs.Ranges.{first_place_none, first_place_found, first_place_not}
 use Rattle.hour.specs.Run.{unread, first_unread}
+use Rattle.hour.proofs.Places.{find_from}
 use Rattle.hour.proofs.figure.unread_asset.Goals as goal
 
-pub loop-place-init : goal.loop-place-init
-loop-place-init c = first_place_none _
+next : (k : ℕ) → 1 + k ≡ suc k
+next k = omega arith
 
-pub loop-place-preserved : goal.loop-place-preserved
-loop-place-preserved c =
-    let fails : unread c.args.market.now c.loop-place.place ≡ false = search rules in
-    first_place_not (unread c.args.market.now) c.loop-place.place c.loop-place.invariant fails
+before : (k : ℕ) → 1 + k - 1 ≡ k
+before k = omega arith
 
-pub returns-then-is_unread : goal.returns-then-is_unread
-unfolding first_unread
-returns-then-is_unread c =
-    let passes : unread c.args.market.now c.loop-place.place ≡ true = search rules in
-    ap Some (add-one c.loop-place.place) ∙ ap (option_map suc) (first_place_found (unread c.args.market.now) 64 c.loop-place.place c.loop-place-test.true c.loop-place.invariant passes)
+as_it_is : (o : Option ℕ) → option_map (λ k. k) o ≡ o
+as_it_is None = refl
+as_it_is (Some k) = refl
 
 pub returns : goal.returns
 unfolding first_unread
 returns c =
-    let end : ◌≡◌ c.loop-place.place 64 = omega arith in
-    sym (ap (option_map suc) (subst (λ n. first_place (unread c.args.market.now) n ≡ None) end c.loop-place.invariant))
+    let m = c.args.market.now in
+    let p = λ (a : ℕ). unread m (a - 1) in
+    let found : option_map (λ k. k) c.find.result ≡ find p (range_with_len 1 64) = find_from_yields_List p _ _ c.find.result c.find.ensures.ran (YieldsList-from_range 1 65 64 refl refl) (λ x b q k. search (rules, tests)) in
+    sym (as_it_is c.find.result) ∙ found ∙ find_from p 1 64 ∙ (λ i. option_map (λ k. next k i) (first_place (λ k. unread m (before k i)) 64))

@@ -1,0 +1,122 @@
+-- Chains over the numbers below a bound and over lists, in the words of sums, counts and first places. Assumes nothing.
+use Rattle.std.proofs.Common.{◌≡◌, ℕ, zero, suc, ◌+◌, ◌≤◌, Bool, true, false, cond, ◌||◌, ltb, List, [], ◌∷◌, map, length, get_or, take, sum, Some, None, Option, sym, refl, ap, ◌∙◌, add-one, arith}
+use denote.Param.Members.{Mut}
+use Rattle.std.specs.Fn.{Called}
+use Rattle.std.specs.Iterator.{Drains}
+use Rattle.std.specs.Iterator.Adapters.{map_source, map_callee, map_steps}
+use Rattle.std.specs.declared.iter.Map.{Map}
+use Rattle.std.specs.declared.ops.Range.{Range}
+use Rattle.std.specs.List.{range_with_len, fold, sum_by, find, list_any}
+use Rattle.std.specs.Option.{option_map}
+use Rattle.std.proofs.iter.Yields.{nat_range_steps}
+use Rattle.std.proofs.lemmas.Iterator.{YieldsList, YieldsList-from_map, items_from_drains}
+use Rattle.std.proofs.lemmas.Bool.{lt-ltb}
+use Rattle.std.proofs.lemmas.List.{map-id, take_all}
+use Rattle.std.proofs.lemmas.List.Sums.{sum_by_more}
+use Rattle.std.proofs.lemmas.List.FromFn.{sum_by-map-range_with_len_more}
+use Rattle.prices.specs.Range.{total, count, earlier, first_place}
+
+-- a sum over the numbers below a bound
+pub sum_below : (f : ℕ → ℕ) (n : ℕ) → sum (map f (range_with_len 0 n)) ≡ total f n
+unfolding total
+sum_below f zero = refl
+sum_below f (suc n) =
+    ap (λ k. sum (map f (range_with_len 0 k))) (sym (add-one n)) ∙ sum_by-map-range_with_len_more (λ x. x) f 0 n n (omega arith) ∙ ap (λ s. s + f n) (sum_below f n)
+
+-- a sum over the leading elements of a list, and over all of them
+sum_leading : {A : Type 0} (f : A → ℕ) (xs : List A) (d : A) (n : ℕ) → n ≤ length xs → sum_by f (take n xs) ≡ total (λ k. f (get_or xs k d)) n
+unfolding total
+sum_leading f xs d zero le = refl
+sum_leading f xs d (suc n) le =
+    ap (λ k. sum_by f (take k xs)) (sym (add-one n)) ∙ sum_by_more f xs n d (omega arith) ∙ ap (λ s. s + f (get_or xs n d)) (sum_leading f xs d n (omega arith))
+
+pub sum_over : {A : Type 0} (f : A → ℕ) (xs : List A) (d : A) → sum_by f xs ≡ total (λ k. f (get_or xs k d)) (length xs)
+sum_over f xs d = ap (sum_by f) (sym (take_all (length xs) xs (omega arith))) ∙ sum_leading f xs d (length xs) (omega arith)
+
+-- a sum by its first term
+total_from : (f : ℕ → ℕ) (n : ℕ) → total f (suc n) ≡ f 0 + total (λ k. f (suc k)) n
+unfolding total
+total_from f zero = omega arith
+total_from f (suc n) = let e = total_from f n in omega (arith, e)
+
+-- whether a number in a range passes
+any_from : (p : ℕ → Bool) (a n : ℕ) → list_any p (range_with_len a n) ≡ ltb 0 (count (λ k. p (a + k)) n)
+unfolding total
+any_from p a zero = refl
+any_from p a (suc n) =
+    ap (λ b. p a || b) (any_from p (a + 1) n) ∙ next (p a) (count (λ k. p (a + 1 + k)) n)
+    ∙ ap (λ b. ltb 0 (cond b 1 0 + count (λ k. p (a + 1 + k)) n)) (ap p (omega arith))
+    ∙ ap (λ (q : ℕ → Bool). ltb 0 (cond (p (a + 0)) 1 0 + count q n)) (λ i k. p (shift k i))
+    ∙ ap (ltb 0) (sym (total_from (λ k. cond (p (a + k)) 1 0) n))
+  where
+    shift : (k : ℕ) → a + 1 + k ≡ a + suc k
+    shift k = omega arith
+
+    next : (b : Bool) (t : ℕ) → (b || ltb 0 t) ≡ ltb 0 (cond b 1 0 + t)
+    next true t = sym (lt-ltb 0 (1 + t) (omega arith))
+    next false t = ap (ltb 0) (omega arith)
+
+-- whether a number below a bound passes
+pub any_below : (p : ℕ → Bool) (n : ℕ) → list_any p (range_with_len 0 n) ≡ ltb 0 (count p n)
+any_below p n = any_from p 0 n ∙ ap (λ (q : ℕ → Bool). ltb 0 (count q n)) (λ i k. p (same k i))
+  where
+    same : (k : ℕ) → 0 + k ≡ k
+    same k = omega arith
+
+-- a first place by the first number
+first_from : (p : ℕ → Bool) (n : ℕ) → first_place p (suc n) ≡ cond (p 0) (Some 0) (option_map suc (first_place (λ k. p (suc k)) n))
+unfolding first_place
+first_from p zero = next (p 0)
+  where
+    next : (b : Bool) → earlier None (cond b (Some 0) None) ≡ cond b (Some 0) (option_map suc None)
+    next true = refl
+    next false = refl
+first_from p (suc n) = ap (λ o. earlier o (cond (p (suc n)) (Some (suc n)) None)) (first_from p n) ∙ next (p 0) (first_place (λ k. p (suc k)) n) (p (suc n))
+  where
+    next : (b : Bool) (found : Option ℕ) (t : Bool) → earlier (cond b (Some 0) (option_map suc found)) (cond t (Some (suc n)) None) ≡ cond b (Some 0) (option_map suc (earlier found (cond t (Some n) None)))
+    next true found t = refl
+    next false (Some x) t = refl
+    next false None true = refl
+    next false None false = refl
+
+-- the first element that passes, by its place
+pub find_place : {A : Type 0} (p : A → Bool) (xs : List A) (d : A) → find p xs ≡ option_map (λ k. get_or xs k d) (first_place (λ k. p (get_or xs k d)) (length xs))
+unfolding first_place
+find_place p [] d = refl
+find_place p (x ∷ xs) d =
+    ap (λ o. cond (p x) (Some x) o) (find_place p xs d) ∙ next (p x) (first_place (λ k. p (get_or xs k d)) (length xs))
+    ∙ ap (option_map (λ k. get_or (x ∷ xs) k d)) (sym (first_from (λ k. p (get_or (x ∷ xs) k d)) (length xs)))
+  where
+    next : (b : Bool) (found : Option ℕ) → cond b (Some x) (option_map (λ k. get_or xs k d) found) ≡ option_map (λ k. get_or (x ∷ xs) k d) (cond b (Some 0) (option_map suc found))
+    next true found = refl
+    next false (Some k) = refl
+    next false None = refl
+
+-- the first number in a range that passes
+pub find_from : (p : ℕ → Bool) (a n : ℕ) → find p (range_with_len a n) ≡ option_map (λ k. a + k) (first_place (λ k. p (a + k)) n)
+unfolding first_place
+find_from p a zero = refl
+find_from p a (suc n) =
+    ap (λ o. cond (p a) (Some a) o) (find_from p (a + 1) n) ∙ next (p a) (first_place (λ k. p (a + 1 + k)) n)
+    ∙ ap (λ b. option_map (λ k. a + k) (cond b (Some 0) (option_map suc (first_place (λ k. p (a + 1 + k)) n)))) (ap p (omega arith))
+    ∙ ap (λ (q : ℕ → Bool). option_map (λ k. a + k) (cond (p (a + 0)) (Some 0) (option_map suc (first_place q n)))) (λ i k. p (shift k i))
+    ∙ ap (option_map (λ k. a + k)) (sym (first_from (λ k. p (a + k)) n))
+  where
+    shift : (k : ℕ) → a + 1 + k ≡ a + suc k
+    shift k = omega arith
+
+    next : (b : Bool) (found : Option ℕ) → cond b (Some a) (option_map (λ k. a + 1 + k) found) ≡ option_map (λ k. a + k) (cond b (Some 0) (option_map suc found))
+    next true found = ap Some (omega arith)
+    next false (Some k) = ap Some (omega arith)
+    next false None = refl
+
+-- what a sum over a mapped range of numbers gives
+pub sum_of_range : {F : Type 0} {g : Mut F (ℕ × Unit {0}) ℕ} {s : Map (Range ℕ) F} (h : ℕ → ℕ) (f : F) (n r : ℕ) →
+    (xs : List ℕ) × (Unit {0} → Drains (map_steps nat_range_steps g) s xs) × (r ≡ fold (λ a x. a + x) 0 xs) →
+    YieldsList nat_range_steps (λ x. x) (map_source s) (range_with_len 0 n) → map_callee s ≡ f →
+    ((x y : ℕ) (q : F) → Called g f (x, tt) y q → (q ≡ f) × (y ≡ h x)) → r ≡ total h n
+sum_of_range {F} {g} {s} h f n r ran road callee calls =
+    let drained = ran.1 tt in
+    let items : map (λ x. x) ran.0 ≡ map h (range_with_len 0 n) =
+    items_from_drains ran.0 (drained.1.0, drained.1.1, λ _. (drained.0, drained.1.2)) (YieldsList-from_map g h road callee calls) in
+    ran.2 ∙ ap sum (sym (map-id ran.0) ∙ items) ∙ sum_below h n

@@ -42,14 +42,7 @@ impl Book {
         Book {
             market,
             instructions: [Instruction::Free; 64],
-            posted: [Amounts {
-                energy: 0,
-                uplift: 0,
-                adjustment: 0,
-                supply_charge: 0,
-                load_charge: 0,
-                net: 0,
-            }; 32],
+            posted: [Amounts::default(); 32],
             draws: 0,
             out: None,
         }
@@ -87,8 +80,7 @@ impl Book {
         if kwh > MOST_ENERGY {
             return Err(Fault::EnergyOutOfRange(asset));
         }
-        let record = &mut self.market.records[place];
-        record.reading = Some(kwh);
+        self.market.records[place].reading = Some(kwh);
         Ok(())
     }
 

@@ -11,6 +11,7 @@ use margins::whole_offer;
 use prices::{Asset, Block, Kind, Schedule};
 
 // The tables of an hour that trading fills: the label, the schedule, and a record of each asset by number less one.
+// Records stand beside the schedule's assets and not in them, since prices reads a schedule and knows no owner and no reading.
 #[derive(Drop)]
 pub struct Market {
     pub label: u32,

@@ -1,9 +1,8 @@
 -- What is true of the tables after meter, propose, confirm and withdraw. Assumes nothing.
-use Rattle.std.proofs.Common.{◌≡◌, ℕ, ◌-◌, ◌<◌, ◌≤◌, true, false, not, ◌⊎◌, List, get_or, is_some, is_ok, Ok, Result, unwrap_or, sym, refl, ap, ◌∙◌, subst, inl, inr, arith}
+use Rattle.std.proofs.Common.{◌≡◌, ℕ, ◌-◌, ◌<◌, ◌≤◌, true, false, not, ◌⊎◌, List, is_some, is_ok, Ok, Result, unwrap_or, sym, refl, ap, ◌∙◌, subst, inl, inr, arith}
 use Rattle.std.proofs.lemmas.List.{length-set, get_or-set_same, get_or-set_other}
 use Rattle.std.proofs.lemmas.Bool.{both_ways, not-false, eqb-true, or_cases, ltb-false}
 use Rattle.std.proofs.lemmas.Bool.Decides.{nat_tests}
-use Rattle.prices.specs.Block.{price_at}
 use Rattle.hour.specs.declared.fault.Fault.{Fault}
 use Rattle.hour.specs.declared.record.Record.{Record}
 use Rattle.hour.specs.declared.book.Book.{Book}
@@ -13,9 +12,9 @@ use Rattle.hour.specs.declared.instruction.Instruction.TheVariants.{Free, Propos
 use Rattle.hour.specs.declared.instruction.Event.TheVariants.{Propose, Confirm, Withdraw}
 use Rattle.hour.specs.Reason.{Reason, answer, outside}
 use Rattle.hour.specs.Instruction.{next_stage, terms_of}
-use Rattle.hour.specs.Market.{outcome, record_at, no_record, blocks_at, reading_at}
+use Rattle.hour.specs.Market.{outcome, record_at, no_record}
 use Rattle.hour.specs.Run.{PricedTables}
-use Rattle.hour.specs.Book.{FullBook, no_amounts, instruction_at, joined_by, joins, with_instruction, terms, meter_reasons, metered, propose_reasons, proposed, confirm_reasons, confirmed, withdraw_reasons, withdrawn}
+use Rattle.hour.specs.Book.{FullBook, instruction_at, joined_by, joins, with_instruction, terms, meter_reasons, metered, propose_reasons, proposed, confirm_reasons, confirmed, withdraw_reasons, withdrawn}
 use Rattle.hour.specs.Priced.{OnlyReading, Metering, OnlyInstruction, Joined, Proposal, Confirmation, Withdrawal}
 use Rattle.hour.proofs.Joining.{joined_parts, proposed_joins, still_joined, freed}
 use Rattle.hour.proofs.Outcomes.{after_if, after_has, accepted, NoneFits, none_fits, getD_set_has}

@@ -1,5 +1,5 @@
 -- What a priced hour keeps true over draw, post and void. Assumes nothing.
-use Rattle.std.proofs.Common.{◌≡◌, ℕ, Bool, true, false, cond, List, [], ◌∷◌, length, get_or, is_some, is_ok, IfOk, Some, None, Ok, Err, Option, Result, sym, refl, ap, ◌∙◌, subst, arith}
+use Rattle.std.proofs.Common.{◌≡◌, ℕ, Bool, true, false, cond, List, [], ◌∷◌, length, is_some, is_ok, IfOk, Some, None, Ok, Err, Option, Result, sym, refl, ap, ◌∙◌, subst, arith}
 use Rattle.std.proofs.lemmas.Bool.{cond_both, eq-eqb, eqb-true, and_parts, both_ways}
 use Rattle.hour.specs.declared.fault.Fault.{Fault}
 use Rattle.hour.specs.declared.run.Run.{Run}
@@ -10,7 +10,6 @@ use Rattle.hour.specs.declared.line.Amounts.{Amounts}
 use Rattle.hour.specs.declared.book.Book.{Book}
 use Rattle.hour.specs.Reason.{Reason, first_fitting}
 use Rattle.hour.specs.Market.{outcome}
-use Rattle.hour.specs.Book.{no_amounts}
 use Rattle.hour.specs.Line.{AllWithin, new_amounts}
 use Rattle.hour.specs.Run.{drawn_amounts, draw_reasons, drawn, Drawing, DrawingInWords, slip_fits, slip_answer, out_amounts, full_run, PricedTables, settled, Posting, PostingInWords, Voiding, VoidingInWords}
 use Rattle.hour.proofs.Outcomes.{after_if, accepted, untouched}

@@ -1,4 +1,5 @@
 pub mod Tables
+pub mod Minutes
 pub mod Sums
 pub mod Places
 pub mod Outcomes

@@ -1,8 +1,7 @@
 -- What holds of the tables after a call that is accepted or refused. Assumes nothing.
-use Rattle.std.proofs.Common.{◌≡◌, ℕ, zero, suc, Bool, true, false, cond, List, [], ◌∷◌, get_or, set, is_ok, Some, None, Ok, Err, Result, sym, refl, ◌∙◌, subst, arith}
-use Rattle.std.proofs.lemmas.Bool.{cond-true, cond-false, both_ways}
+use Rattle.std.proofs.Common.{◌≡◌, ℕ, zero, suc, Bool, true, false, cond, List, [], ◌∷◌, get_or, set, is_ok, Ok, Err, Result, sym, refl, ◌∙◌, subst, arith}
+use Rattle.std.proofs.lemmas.Bool.{cond-true, both_ways}
 use Rattle.hour.specs.declared.fault.Fault.{Fault}
-use Rattle.hour.specs.declared.fault.Fault.TheVariants.{DrawsUsedUp}
 use Rattle.hour.specs.Reason.{Reason, first_fitting}
 use Rattle.hour.specs.Market.{outcome}
 
@@ -48,45 +47,7 @@ getD_set_has P (y ∷ ys) zero (suc k) x d new old = old
 getD_set_has P (y ∷ ys) (suc i) zero x d new old = old
 getD_set_has P (y ∷ ys) (suc i) (suc k) x d new old = getD_set_has P ys i k x d new old
 
--- what is there under a test is what the test gives
-pub cond_some : {A : Type 0} (b : Bool) (x y : A) → Some y ≡ cond b (Some x) None → y ≡ x
-cond_some true x y e = cc
-cond_some false x y e = let z : ◌≡◌ {A = ℕ} 0 1 = cc in absurd (omega arith)
-
 -- a check that is passed
 pub passed : {A E : Type 0} (t : Bool) (x y : A) (e : E) → ◌≡◌ {A = Result A E} (Ok x) (cond t (Err e) (Ok y)) → t ≡ false
 passed true x y e h = let z : ◌≡◌ {A = ℕ} 0 1 = cc in absurd (omega arith)
 passed false x y e h = refl
-
--- if no reason fits, the call goes on
-pub goes_on : {A : Type 0} (reasons : List Reason) (otherwise : Result A Fault) → NoneFits reasons → otherwise ≡ first_fitting reasons otherwise
-goes_on [] otherwise none = refl
-goes_on (reason ∷ rest) otherwise none = goes_on rest otherwise none.1 ∙ sym (cond-false reason.fits (Err reason.fault) (first_fitting rest otherwise) none.0)
-
--- the value of a check that is passed
-pub passed_value : {A E : Type 0} (t : Bool) (x y : A) (e : E) → ◌≡◌ {A = Result A E} (Ok x) (cond t (Err e) (Ok y)) → x ≡ y
-passed_value true x y e h = let z : ◌≡◌ {A = ℕ} 0 1 = cc in absurd (omega arith)
-passed_value false x y e h = cc
-
--- the reason at a place fits, and none before it does
-abbrev pub FitsAt : ℕ → List Reason → Type 0
-FitsAt k [] = ⊥
-FitsAt zero (reason ∷ rest) = reason.fits ≡ true
-FitsAt (suc k) (reason ∷ rest) = (reason.fits ≡ false) × FitsAt k rest
-
--- its fault
-abbrev pub fault_at : ℕ → List Reason → Fault
-fault_at k [] = DrawsUsedUp
-fault_at zero (reason ∷ rest) = reason.fault
-fault_at (suc k) (reason ∷ rest) = fault_at k rest
-
--- that reason decides
-pub refused_at : {A : Type 0} (k : ℕ) (reasons : List Reason) (otherwise : Result A Fault) → FitsAt k reasons → Err (fault_at k reasons) ≡ first_fitting reasons otherwise
-refused_at k [] otherwise fits = absurd fits
-refused_at zero (reason ∷ rest) otherwise fits = sym (cond-true reason.fits (Err reason.fault) (first_fitting rest otherwise) fits)
-refused_at (suc k) (reason ∷ rest) otherwise fits = refused_at k rest otherwise fits.1 ∙ sym (cond-false reason.fits (Err reason.fault) (first_fitting rest otherwise) fits.0)
-
--- a check that is not passed, and its fault
-pub failed : {A E : Type 0} (t : Bool) (x : A) (e f : E) → ◌≡◌ {A = Result A E} (Err e) (cond t (Err f) (Ok x)) → (t ≡ true) × (e ≡ f)
-failed true x e f h = (refl, cc)
-failed false x e f h = let z : ◌≡◌ {A = ℕ} 0 1 = cc in absurd (omega arith)

@@ -1,9 +1,8 @@
 -- What is true of the tables after meter, propose, confirm and withdraw. Assumes nothing.
-use Rattle.std.proofs.Common.{◌≡◌, ℕ, ◌-◌, ◌<◌, ◌≤◌, true, false, not, ◌⊎◌, List, get_or, is_some, is_ok, Ok, Result, unwrap_or, sym, refl, ap, ◌∙◌, subst, inl, inr, arith}
+use Rattle.std.proofs.Common.{◌≡◌, ℕ, ◌-◌, ◌<◌, ◌≤◌, true, false, not, ◌⊎◌, List, is_some, is_ok, Ok, Result, unwrap_or, sym, refl, ap, ◌∙◌, subst, inl, inr, arith}
 use Rattle.std.proofs.lemmas.List.{length-set, get_or-set_same, get_or-set_other}
 use Rattle.std.proofs.lemmas.Bool.{both_ways, not-false, eqb-true, or_cases, ltb-false}
 use Rattle.std.proofs.lemmas.Bool.Decides.{nat_tests}
-use Rattle.prices.specs.Block.{price_at}
 use Rattle.hour.specs.declared.fault.Fault.{Fault}
 use Rattle.hour.specs.declared.record.Record.{Record}
 use Rattle.hour.specs.declared.book.Book.{Book}
@@ -13,25 +12,12 @@ use Rattle.hour.specs.declared.instruction.Instruction.TheVariants.{Free, Propos
 use Rattle.hour.specs.declared.instruction.Event.TheVariants.{Propose, Confirm, Withdraw}
 use Rattle.hour.specs.Reason.{Reason, answer, outside}
 use Rattle.hour.specs.Instruction.{next_stage, terms_of}
-use Rattle.hour.specs.Market.{outcome, record_at, no_record, blocks_at, reading_at}
-use Rattle.hour.specs.Line.{Item, amount_of, Within}
-use Rattle.hour.specs.Run.{out_amounts, full_run}
-use Rattle.hour.specs.Book.{FullBook, no_amounts, instruction_at, joined_by, joins, with_instruction, terms, meter_reasons, metered, propose_reasons, proposed, confirm_reasons, confirmed, withdraw_reasons, withdrawn}
+use Rattle.hour.specs.Market.{outcome, record_at, no_record}
+use Rattle.hour.specs.Run.{PricedTables}
+use Rattle.hour.specs.Book.{FullBook, instruction_at, joined_by, joins, with_instruction, terms, meter_reasons, metered, propose_reasons, proposed, confirm_reasons, confirmed, withdraw_reasons, withdrawn}
 use Rattle.hour.specs.Priced.{OnlyReading, Metering, OnlyInstruction, Joined, Proposal, Confirmation, Withdrawal}
 use Rattle.hour.proofs.Joining.{joined_parts, proposed_joins, still_joined, freed}
 use Rattle.hour.proofs.Outcomes.{after_if, after_has, accepted, NoneFits, none_fits, getD_set_has}
-
--- what a priced hour keeps true of its tables
-abbrev pub Kept : Book → Type 0
-Kept b =
-    FullBook b
-    × (((k j : ℕ) → price_at (blocks_at b.market k) j ≤ 99999)
-    × (((k : ℕ) → reading_at b.market k ≤ 1000000)
-    × (((k : ℕ) → joins b.market.schedule.assets (instruction_at b k) ≡ true)
-    × (((k : ℕ) (item : Item) → Within 10000000000000000 (amount_of item (get_or b.posted k no_amounts)))
-    × (((k : ℕ) (item : Item) → Within 10000000000000000 (amount_of item (get_or (out_amounts b.out) k no_amounts)))
-    × ((full_run b.out ≡ true)
-    × Unit {0}))))))
 
 range : (number : ℕ) → outside 1 64 number ≡ false → number - 1 < 64
 range number inside = grind (arith, nat_tests)
@@ -45,22 +31,23 @@ module _ (before : Book) (asset kwh : ℕ) (r : Result (Unit {0}) Fault) (after 
   meter_none : is_ok r ≡ true → NoneFits (meter_reasons before asset kwh)
   meter_none ok = accepted_none r (meter_reasons before asset kwh) said ok
 
-  pub meter_kept : Kept before → Kept after
-  meter_kept kept = after_if r _ _ _ state Kept new kept
+  pub meter_kept : PricedTables before → PricedTables after
+  meter_kept kept = after_if r _ _ _ state PricedTables new kept
     where
       small : is_ok r ≡ true → kwh ≤ 1000000
       small ok = ltb-false 1000000 kwh (meter_none ok).1.1.1.0
 
-      new : is_ok r ≡ true → Kept (metered before asset kwh)
+      new : is_ok r ≡ true → PricedTables (metered before asset kwh)
       new ok = (
         (kept.0.0, kept.0.1, length-set _ _ _ ∙ kept.0.2, kept.0.3, kept.0.4),
         (
           kept.1.0,
-          (
-            λ k. getD_set_has (λ (e : Record). unwrap_or e.reading 0 ≤ 1000000) before.market.records (asset - 1) k _ no_record (small ok) (kept.1.1.0 k),
-            kept.1.1.1,
-          ),
+          λ k. getD_set_has (λ (e : Record). unwrap_or e.reading 0 ≤ 1000000) before.market.records (asset - 1) k _ no_record (small ok) (kept.1.1 k),
+          kept.1.2,
         ),
+        kept.2,
+        kept.3,
+        kept.4,
       )
 
   pub meter_words : FullBook before → Metering before asset kwh r after
@@ -100,16 +87,13 @@ only_instruction b place i = record {
 only_same : (b : Book) (place : ℕ) → OnlyInstruction b b place
 only_same b place = record { market = refl; instructions = λ _ _. refl; posted = refl; draws = refl; out = refl }
 
-step_kept : (b : Book) (place : ℕ) (i : Instruction) → Kept b → joins b.market.schedule.assets i ≡ true → Kept (with_instruction b place i)
+step_kept : (b : Book) (place : ℕ) (i : Instruction) → PricedTables b → joins b.market.schedule.assets i ≡ true → PricedTables (with_instruction b place i)
 step_kept b place i kept good = (
   (kept.0.0, kept.0.1, kept.0.2, length-set _ _ _ ∙ kept.0.3, kept.0.4),
-  (
-    kept.1.0,
-    (
-      kept.1.1.0,
-      (λ k. getD_set_has (λ x. joins b.market.schedule.assets x ≡ true) b.instructions place k i Free good (kept.1.1.1.0 k), kept.1.1.1.1),
-    ),
-  ),
+  (kept.1.0, kept.1.1, λ k. getD_set_has (λ x. joins b.market.schedule.assets x ≡ true) b.instructions place k i Free good (kept.1.2 k)),
+  kept.2,
+  kept.3,
+  kept.4,
 )
 
 -- the instruction that is written is the one then found
@@ -132,13 +116,13 @@ module _ (before : Book) (number source sink kwh : ℕ) (r : Result (Unit {0}) F
   taken : is_ok r ≡ true → (instruction_at before (number - 1) ≡ Free) × (unwrap_or (next_stage (instruction_at before (number - 1)) (Propose t)) Free ≡ Proposed t)
   taken ok = free_if (instruction_at before (number - 1)) (propose_none ok).1.1.1.1.1.1.1.1.0
 
-  pub propose_kept : Kept before → Kept after
-  propose_kept kept = after_if r _ _ _ state Kept new kept
+  pub propose_kept : PricedTables before → PricedTables after
+  propose_kept kept = after_if r _ _ _ state PricedTables new kept
     where
       good : is_ok r ≡ true → joined_by before.market.schedule.assets t ≡ true
       good ok = proposed_joins before number source sink kwh (propose_none ok)
 
-      new : is_ok r ≡ true → Kept (proposed before number source sink kwh)
+      new : is_ok r ≡ true → PricedTables (proposed before number source sink kwh)
       new ok = step_kept before (number - 1) _ kept (ap (joins before.market.schedule.assets) (taken ok).1 ∙ good ok)
 
   pub propose_words : FullBook before → Proposal before number source sink kwh r after
@@ -162,8 +146,8 @@ module _ (before : Book) (number participant : ℕ) (r : Result (Unit {0}) Fault
   confirm_none : is_ok r ≡ true → NoneFits (confirm_reasons before number participant)
   confirm_none ok = accepted_none r (confirm_reasons before number participant) said ok
 
-  pub confirm_kept : Kept before → Kept after
-  confirm_kept kept = after_has r _ _ _ state Kept (step_kept before (number - 1) _ kept (still_joined before.market.schedule.assets (instruction_at before (number - 1)) (kept.1.1.1.0 (number - 1)))) kept
+  pub confirm_kept : PricedTables before → PricedTables after
+  confirm_kept kept = after_has r _ _ _ state PricedTables (step_kept before (number - 1) _ kept (still_joined before.market.schedule.assets (instruction_at before (number - 1)) (kept.1.2 (number - 1)))) kept
 
   proposed_if : (i : Instruction) → not (is_some (next_stage i Confirm)) ≡ false → (i ≡ Proposed (terms_of i)) × (unwrap_or (next_stage i Confirm) Free ≡ Matched (terms_of i))
   proposed_if Free e = absurd (both_ways _ e refl)
@@ -198,8 +182,8 @@ module _ (before : Book) (number participant : ℕ) (r : Result (Unit {0}) Fault
   withdraw_none : is_ok r ≡ true → NoneFits (withdraw_reasons before number participant)
   withdraw_none ok = accepted_none r (withdraw_reasons before number participant) said ok
 
-  pub withdraw_kept : Kept before → Kept after
-  withdraw_kept kept = after_has r _ _ _ state Kept (step_kept before (number - 1) _ kept (ap (joins before.market.schedule.assets) (freed (instruction_at before (number - 1))))) kept
+  pub withdraw_kept : PricedTables before → PricedTables after
+  withdraw_kept kept = after_has r _ _ _ state PricedTables (step_kept before (number - 1) _ kept (ap (joins before.market.schedule.assets) (freed (instruction_at before (number - 1))))) kept
 
   was_taken : (i : Instruction) → not (is_some (next_stage i Withdraw)) ≡ false → (i ≡ Proposed (terms_of i)) ⊎ (i ≡ Matched (terms_of i))
   was_taken Free e = absurd (both_ways _ e refl)

@@ -1,5 +1,5 @@
 -- What a priced hour keeps true over draw, post and void. Assumes nothing.
-use Rattle.std.proofs.Common.{◌≡◌, ℕ, Bool, true, false, cond, List, [], ◌∷◌, length, get_or, is_some, is_ok, IfOk, Some, None, Ok, Err, Option, Result, sym, refl, ap, ◌∙◌, subst, arith}
+use Rattle.std.proofs.Common.{◌≡◌, ℕ, Bool, true, false, cond, List, [], ◌∷◌, length, is_some, is_ok, IfOk, Some, None, Ok, Err, Option, Result, sym, refl, ap, ◌∙◌, subst, arith}
 use Rattle.std.proofs.lemmas.Bool.{cond_both, eq-eqb, eqb-true, and_parts, both_ways}
 use Rattle.hour.specs.declared.fault.Fault.{Fault}
 use Rattle.hour.specs.declared.run.Run.{Run}
@@ -10,50 +10,36 @@ use Rattle.hour.specs.declared.line.Amounts.{Amounts}
 use Rattle.hour.specs.declared.book.Book.{Book}
 use Rattle.hour.specs.Reason.{Reason, first_fitting}
 use Rattle.hour.specs.Market.{outcome}
-use Rattle.hour.specs.Book.{no_amounts}
-use Rattle.hour.specs.Line.{Item, amount_of, Within, new_amounts}
-use Rattle.hour.specs.Run.{drawn_amounts, draw_reasons, drawn, Drawing, DrawingInWords, slip_fits, slip_answer, out_amounts, full_run, settled, Posting, PostingInWords, Voiding, VoidingInWords}
+use Rattle.hour.specs.Line.{AllWithin, new_amounts}
+use Rattle.hour.specs.Run.{drawn_amounts, draw_reasons, drawn, Drawing, DrawingInWords, slip_fits, slip_answer, out_amounts, full_run, PricedTables, settled, Posting, PostingInWords, Voiding, VoidingInWords}
 use Rattle.hour.proofs.Outcomes.{after_if, accepted, untouched}
-use Rattle.hour.proofs.PricedSteps.{Kept}
 use Rattle.hour.proofs.Runs.{nothing_within}
 use Rattle.hour.proofs.Tables.{length_table}
 
 module _ (shares : ℕ → List ℕ → List ℕ) (before : Book) (r : Result Slip Fault) (after : Book)
-    (state : after ≡ outcome r (drawn shares before) before) (kept : Kept before)
-    (within : IfOk r (λ _. (k : ℕ) (item : Item) → Within 10000000000000000 (amount_of item (get_or (out_amounts after.out) k no_amounts)))) where
+    (state : after ≡ outcome r (drawn shares before) before) (kept : PricedTables before)
+    (within : IfOk r (λ _. AllWithin (out_amounts after.out))) where
   full : length (drawn_amounts shares before) ≡ 32
   unfolding new_amounts
   full = length_table _ 32
 
-  new_within : (s : Result Slip Fault) → is_ok s ≡ true → IfOk s (λ _. (k : ℕ) (item : Item) → Within 10000000000000000 (amount_of item (get_or (out_amounts after.out) k no_amounts))) → (k : ℕ) (item : Item) → Within 10000000000000000 (amount_of item (get_or (out_amounts after.out) k no_amounts))
+  new_within : (s : Result Slip Fault) → is_ok s ≡ true → IfOk s (λ _. AllWithin (out_amounts after.out)) → AllWithin (out_amounts after.out)
   new_within (Ok x) ok w = w
   new_within (Err e) ok w = absurd (both_ways _ refl ok)
 
-  pub draw_kept : Kept after
-  draw_kept = after_if r (drawn shares before) before after state Kept new kept
+  pub draw_kept : PricedTables after
+  draw_kept = after_if r (drawn shares before) before after state PricedTables new kept
     where
       same : is_ok r ≡ true → after ≡ drawn shares before
       same ok = accepted r (drawn shares before) before after state ok
 
-      new : is_ok r ≡ true → Kept (drawn shares before)
+      new : is_ok r ≡ true → PricedTables (drawn shares before)
       new ok = (
         kept.0,
-        (
-          kept.1.0,
-          (
-            kept.1.1.0,
-            (
-              kept.1.1.1.0,
-              (
-                kept.1.1.1.1.0,
-                (
-                  subst (λ (b : Book). (k : ℕ) (item : Item) → Within 10000000000000000 (amount_of item (get_or (out_amounts b.out) k no_amounts))) (same ok) (new_within r ok within),
-                  (eq-eqb _ 32 full, tt),
-                ),
-              ),
-            ),
-          ),
-        ),
+        kept.1,
+        kept.2,
+        subst (λ (b : Book). AllWithin (out_amounts b.out)) (same ok) (new_within r ok within),
+        eq-eqb _ 32 full,
       )
 
 -- a call that answers with a slip answers with the one that it hands out
@@ -87,20 +73,23 @@ run_length (Some run) some whole = eqb-true _ 32 whole
 by_slip : (P : Book → Type 0) (b changed : Book) (slip : Slip) (after : Book) → after ≡ cond (slip_fits b slip) changed b → (slip_fits b slip ≡ true → P changed) → P b → P after
 by_slip P b changed slip after state new old = subst P (sym state) (cond_both (slip_fits b slip) changed b P new (λ _. old))
 
-settled_kept : (b : Book) (posted : List Amounts) → Kept b → length posted ≡ 32 → ((k : ℕ) (item : Item) → Within 10000000000000000 (amount_of item (get_or posted k no_amounts))) → Kept (settled b posted)
+settled_kept : (b : Book) (posted : List Amounts) → PricedTables b → length posted ≡ 32 → AllWithin posted → PricedTables (settled b posted)
 settled_kept b posted kept len within = (
   (kept.0.0, kept.0.1, kept.0.2, kept.0.3, len),
-  (kept.1.0, (kept.1.1.0, (kept.1.1.1.0, (within, (λ k item. nothing_within item, (refl, tt)))))),
+  kept.1,
+  within,
+  λ k item. nothing_within item,
+  refl,
 )
 
-pub post_kept : (b : Book) (slip : Slip) (after : Book) → Kept b → after ≡ cond (slip_fits b slip) (settled b (out_amounts b.out)) b → Kept after
+pub post_kept : (b : Book) (slip : Slip) (after : Book) → PricedTables b → after ≡ cond (slip_fits b slip) (settled b (out_amounts b.out)) b → PricedTables after
 post_kept b slip after kept state =
-    by_slip Kept b _ slip after state
-    (λ fits. settled_kept b (out_amounts b.out) kept (run_length b.out (and_parts _ _ fits).0 kept.1.1.1.1.1.1.0) kept.1.1.1.1.1.0) kept
+    by_slip PricedTables b _ slip after state
+    (λ fits. settled_kept b (out_amounts b.out) kept (run_length b.out (and_parts _ _ fits).0 kept.4) kept.3) kept
 
-pub void_kept : (b : Book) (slip : Slip) (after : Book) → Kept b → after ≡ cond (slip_fits b slip) (settled b b.posted) b → Kept after
+pub void_kept : (b : Book) (slip : Slip) (after : Book) → PricedTables b → after ≡ cond (slip_fits b slip) (settled b b.posted) b → PricedTables after
 void_kept b slip after kept state =
-    by_slip Kept b _ slip after state (λ _. settled_kept b b.posted kept kept.0.4 kept.1.1.1.1.0) kept
+    by_slip PricedTables b _ slip after state (λ _. settled_kept b b.posted kept kept.0.4 kept.2) kept
 
 module _ (b changed : Book) (slip : Slip) (r : Result (Unit {0}) Returned) (after : Book) (said : r ≡ slip_answer b slip) (state : after ≡ cond (slip_fits b slip) changed b) where
   -- an accepted slip leaves the changed book

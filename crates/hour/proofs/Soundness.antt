@@ -1,53 +1,39 @@
 -- When a block list keeps the rules of an offer or a bid. Assumes nothing.
-use Rattle.std.proofs.Common.{◌≡◌, ℕ, ◌<◌, ◌≤◌, Bool, true, false, ◌&&◌, List, length, sym, refl, subst, inl, inr, arith}
-use Rattle.std.proofs.lemmas.Bool.{and_parts, and_from, and_left, and_right, both_ways, cases_lt, le-leb, lt-leb, leb-true}
-use Rattle.std.proofs.lemmas.List.{get_or_past}
+use Rattle.std.proofs.Common.{◌≡◌, ℕ, zero, suc, ◌≤◌, Bool, true, false, ◌&&◌, leb, List, length, get_or, take, sym, refl, ap, ◌∙◌, subst, inl, inr, arith}
+use native.Mathlib.Numerals.{suc-eq-add-one}
+use Rattle.std.specs.List.{list_all}
+use Rattle.std.proofs.lemmas.List.Folds.{list_all_more}
+use Rattle.std.proofs.lemmas.Bool.{and_parts, and_left, cases_lt, leb-true}
+use Rattle.std.proofs.lemmas.List.{get_or_past, take_all}
 use Rattle.prices.specs.declared.block.Block.{Block}
 use Rattle.prices.specs.declared.kind.Kind.{Kind}
 use Rattle.prices.specs.Block.{no_block, price_at, ahead}
-use Rattle.margins.specs.Order.{every, ordered_for, InKindsOrder}
+use Rattle.margins.specs.Order.{every, ordered_for}
 use Rattle.margins.proofs.Ordering.{every_at}
-use Rattle.hour.specs.Blocks.{fair_at, sound_blocks, SoundBlocks}
+use Rattle.hour.specs.Blocks.{fair_block, fair_at, sound_blocks}
 
-true_and : (x y : Bool) → x ≡ true → (x && y) ≡ y
-true_and true y e = refl
-true_and false y e = absurd (both_ways _ refl e)
+-- a test of all elements by their places is the test of all elements
+every_front : {A : Type 0} (p : A → Bool) (xs : List A) (d : A) (n : ℕ) → n ≤ length xs → every (λ k. p (get_or xs k d)) n ≡ list_all p (take n xs)
+unfolding every
+every_front p xs d zero le = refl
+every_front p xs d (suc n) le =
+    ap (λ b. b && p (get_or xs n d)) (every_front p xs d n (omega arith))
+    ∙ sym (list_all_more p xs n d (omega arith))
+    ∙ ap (λ m. list_all p (take m xs)) (sym (suc-eq-add-one n))
+
+pub every_list : {A : Type 0} (p : A → Bool) (xs : List A) (d : A) → every (λ k. p (get_or xs k d)) (length xs) ≡ list_all p xs
+every_list p xs d = every_front p xs d (length xs) (omega arith) ∙ ap (list_all p) (take_all (length xs) xs (omega arith))
 
 module _ (kind : Kind) (blocks : List Block) where
-  -- a list whose other rules are kept is sound if it is in order
-  pub sound_by_order : 1 ≤ length blocks → length blocks ≤ 7 → every (fair_at blocks) (length blocks) ≡ true → ahead blocks (length blocks) ≤ 1000 → ordered_for kind blocks ≡ sound_blocks kind blocks
+  -- the rules that are left once a list has 1 to 7 blocks
+  pub sound_of_listed : (leb 1 (length blocks) && leb (length blocks) 7) ≡ true → sound_blocks kind blocks ≡ (list_all fair_block blocks && leb (ahead blocks (length blocks)) 1000 && ordered_for kind blocks)
   unfolding sound_blocks
-  sound_by_order low high fair small =
-      sym (true_and _ _ (and_from _ _ (and_from _ _ (and_from _ _ (le-leb 1 _ low) (le-leb _ 7 high)) fair) (le-leb _ 1000 small)))
+  sound_of_listed few = rw (few, every_list fair_block blocks no_block) refl
 
-  pub too_few : length blocks < 1 → false ≡ sound_blocks kind blocks
+  -- a list of no blocks, or of more than 7, breaks the rules
+  pub unlisted : (leb 1 (length blocks) && leb (length blocks) 7) ≡ false → sound_blocks kind blocks ≡ false
   unfolding sound_blocks
-  too_few less = sym (and_left _ _ (and_left _ _ (and_left _ _ (and_left _ _ (lt-leb 1 _ less)))))
-
-  pub too_many : 7 < length blocks → false ≡ sound_blocks kind blocks
-  unfolding sound_blocks
-  too_many more = sym (and_left _ _ (and_left _ _ (and_left _ _ (and_right _ _ (lt-leb _ 7 more)))))
-
-  pub unfair : every (fair_at blocks) (length blocks) ≡ false → false ≡ sound_blocks kind blocks
-  unfolding sound_blocks
-  unfair one = sym (and_left _ _ (and_left _ _ (and_right _ _ one)))
-
-  pub too_large : 1000 < ahead blocks (length blocks) → false ≡ sound_blocks kind blocks
-  unfolding sound_blocks
-  too_large more = sym (and_left _ _ (and_right _ _ (lt-leb _ 1000 more)))
-
-  -- the rules in words
-  pub sound_words : 1 ≤ length blocks → length blocks ≤ 7 → every (fair_at blocks) (length blocks) ≡ true → ahead blocks (length blocks) ≤ 1000 → InKindsOrder kind blocks true → SoundBlocks kind blocks
-  sound_words low high fair small order = record {
-    some = low;
-    few = high;
-    sizes = λ k lt.
-        let parts = and_parts _ _ (and_parts _ _ (every_at (fair_at blocks) (length blocks) fair k lt)).0 in
-        (leb-true 1 _ parts.0, leb-true _ 1000 parts.1);
-    prices = λ k lt. leb-true _ 99999 (and_parts _ _ (every_at (fair_at blocks) (length blocks) fair k lt)).1;
-    together = small;
-    order = order;
-  }
+  unlisted other = and_left _ _ (and_left _ _ (and_left _ _ other))
 
   -- what a sound list keeps
   sound_parts : sound_blocks kind blocks ≡ true → (length blocks ≤ 7) × (every (fair_at blocks) (length blocks) ≡ true)

@@ -14,18 +14,10 @@ use Rattle.hour.specs.declared.market.Market.{Market}
 use Rattle.hour.specs.Reason.{Reason, answer, outside}
 use Rattle.hour.specs.Minute.{level_from, mark_between}
 use Rattle.hour.specs.Blocks.{sound_blocks}
-use Rattle.hour.specs.Market.{FullTables, empty_market, asset_at, record_at, no_record, blocks_of, blocks_at, kind_in, outcome, enrol_reasons, enrolled, offer_reasons, offering, offered_blocks, order_reasons, levelled, ordered, shed_reasons, shed}
+use Rattle.hour.specs.Market.{OpenTables, empty_market, asset_at, record_at, no_record, blocks_of, blocks_at, kind_in, outcome, enrol_reasons, enrolled, offer_reasons, offering, offered_blocks, order_reasons, levelled, ordered, shed_reasons, shed}
 use Rattle.hour.specs.Trading.{OnlyRow, Enrolled, Shed, Offering, Instructed, level_of, level_at}
 use Rattle.hour.proofs.Outcomes.{after_if, after_has, accepted, untouched, NoneFits, none_fits, getD_set_has}
 use Rattle.hour.proofs.Tables.{length_table, getD_table}
-
--- what a trading hour keeps true of its tables
-abbrev pub TradeKept : Market → Type 0
-TradeKept m =
-    FullTables m
-    × (((k j : ℕ) → price_at (blocks_at m k) j ≤ 99999)
-    × (((k : ℕ) → is_some (record_at m k).reading ≡ false)
-    × Unit {0}))
 
 range : (number : ℕ) → outside 1 64 number ≡ false → number - 1 < 64
 range number inside = grind (arith, nat_tests)
@@ -41,13 +33,11 @@ changed_row m place asset entry = record {
   records = set m.records place entry;
 }
 
-row_kept : (m : Market) (place : ℕ) (asset : Option Asset) (entry : Record) → TradeKept m → ((j : ℕ) → price_at (blocks_of asset) j ≤ 99999) → is_some entry.reading ≡ false → TradeKept (changed_row m place asset entry)
+row_kept : (m : Market) (place : ℕ) (asset : Option Asset) (entry : Record) → OpenTables m → ((j : ℕ) → price_at (blocks_of asset) j ≤ 99999) → is_some entry.reading ≡ false → OpenTables (changed_row m place asset entry)
 row_kept m place asset entry kept capped unread = (
   (length-set _ _ _ ∙ kept.0.0, kept.0.1, length-set _ _ _ ∙ kept.0.2),
-  (
-    λ k j. getD_set_has (λ a. price_at (blocks_of a) j ≤ 99999) m.schedule.assets place k asset None (capped j) (kept.1.0 k j),
-    (λ k. getD_set_has (λ (e : Record). is_some e.reading ≡ false) m.records place k entry no_record unread (kept.1.1.0 k), tt),
-  ),
+  λ k j. getD_set_has (λ a. price_at (blocks_of a) j ≤ 99999) m.schedule.assets place k asset None (capped j) (kept.1 k j),
+  λ k. getD_set_has (λ (e : Record). is_some e.reading ≡ false) m.records place k entry no_record unread (kept.2 k),
 )
 
 only_row : (m : Market) (k : ℕ) (asset : Option Asset) (entry : Record) → OnlyRow m (changed_row m k asset entry) k
@@ -62,9 +52,9 @@ same_rows : (m : Market) (k : ℕ) → OnlyRow m m k
 same_rows m k = record { label = refl; marks = refl; assets = λ _ _. refl; records = λ _ _. refl }
 
 module _ (before : Market) (asset letter owner : ℕ) (r : Result (Unit {0}) Fault) (after : Market)
-    (kept : TradeKept before) (said : r ≡ answer (enrol_reasons before asset letter owner)) (state : after ≡ outcome r (enrolled before asset letter owner) before) where
-  pub enrol_kept : TradeKept after
-  enrol_kept = after_has r _ _ _ state TradeKept (row_kept before (asset - 1) _ _ kept (λ j. omega arith) refl) kept
+    (kept : OpenTables before) (said : r ≡ answer (enrol_reasons before asset letter owner)) (state : after ≡ outcome r (enrolled before asset letter owner) before) where
+  pub enrol_kept : OpenTables after
+  enrol_kept = after_has r _ _ _ state OpenTables (row_kept before (asset - 1) _ _ kept (λ j. omega arith) refl) kept
 
   pub enrol_words : Enrolled before asset letter owner r after
   enrol_words = record {
@@ -80,7 +70,7 @@ module _ (before : Market) (asset letter owner : ℕ) (r : Result (Unit {0}) Fau
       inside ok = range asset (said_none r (enrol_reasons before asset letter owner) said ok).0
 
 module _ (before : Market) (asset : ℕ) (blocks : List Block) (r : Result (Unit {0}) Fault) (after : Market)
-    (kept : TradeKept before) (said : r ≡ answer (offer_reasons before asset blocks)) (state : after ≡ outcome r (offered_blocks before asset blocks) before) where
+    (kept : OpenTables before) (said : r ≡ answer (offer_reasons before asset blocks)) (state : after ≡ outcome r (offered_blocks before asset blocks) before) where
   abbrev old : Option Asset
   old = asset_at before (asset - 1)
 
@@ -98,17 +88,15 @@ module _ (before : Market) (asset : ℕ) (blocks : List Block) (r : Result (Unit
   offered_then : is_ok r ≡ true → blocks_of (offering old blocks) ≡ blocks
   offered_then ok = blocks_then old (offer_none ok).1.0 (sound_few (kind_in old) blocks (sound ok))
 
-  pub offer_kept : TradeKept after
-  offer_kept = after_if r _ _ _ state TradeKept new kept
+  pub offer_kept : OpenTables after
+  offer_kept = after_if r _ _ _ state OpenTables new kept
     where
-      new : is_ok r ≡ true → TradeKept (offered_blocks before asset blocks)
+      new : is_ok r ≡ true → OpenTables (offered_blocks before asset blocks)
       new ok = (
         (length-set _ _ _ ∙ kept.0.0, kept.0.1, kept.0.2),
-        (
-          λ k j. getD_set_has (λ a. price_at (blocks_of a) j ≤ 99999) before.schedule.assets (asset - 1) k (offering old blocks) None
-              (subst (λ bs. price_at bs j ≤ 99999) (sym (offered_then ok)) (sound_prices (kind_in old) blocks (sound ok) j)) (kept.1.0 k j),
-          (kept.1.1.0, tt),
-        ),
+        λ k j. getD_set_has (λ a. price_at (blocks_of a) j ≤ 99999) before.schedule.assets (asset - 1) k (offering old blocks) None
+            (subst (λ bs. price_at bs j ≤ 99999) (sym (offered_then ok)) (sound_prices (kind_in old) blocks (sound ok) j)) (kept.1 k j),
+        kept.2,
       )
 
   same_kind : (a : Option Asset) → kind_in (offering a blocks) ≡ kind_in a
@@ -136,7 +124,7 @@ module _ (before : Market) (asset : ℕ) (blocks : List Block) (r : Result (Unit
   }
 
 module _ (before : Market) (asset minute level : ℕ) (r : Result (Unit {0}) Fault) (after : Market)
-    (kept : TradeKept before) (said : r ≡ answer (order_reasons before asset minute level)) (state : after ≡ outcome r (ordered before asset minute level) before) where
+    (kept : OpenTables before) (said : r ≡ answer (order_reasons before asset minute level)) (state : after ≡ outcome r (ordered before asset minute level) before) where
   abbrev then_old : Option Asset
   then_old = asset_at before (asset - 1)
 
@@ -167,9 +155,9 @@ module _ (before : Market) (asset minute level : ℕ) (r : Result (Unit {0}) Fau
         | inr past ↦ cond-false _ _ 0 (le-ltb m 60 past) ∙ sym (cond-false _ _ 0 (le-ltb m 60 past))
       ]
 
-  pub order_kept : TradeKept after
-  order_kept = after_has r _ _ _ state TradeKept
-      (row_kept before (asset - 1) new_asset _ kept (λ j. subst (λ bs. price_at bs j ≤ 99999) (sym (blocks_stay then_old)) (kept.1.0 (asset - 1) j)) (kept.1.1.0 (asset - 1)))
+  pub order_kept : OpenTables after
+  order_kept = after_has r _ _ _ state OpenTables
+      (row_kept before (asset - 1) new_asset _ kept (λ j. subst (λ bs. price_at bs j ≤ 99999) (sym (blocks_stay then_old)) (kept.1 (asset - 1) j)) (kept.2 (asset - 1)))
       kept
 
   pub order_words : Instructed before asset minute level r after
@@ -193,9 +181,9 @@ module _ (before : Market) (asset minute level : ℕ) (r : Result (Unit {0}) Fau
       inside ok = range asset (order_none ok).0
 
 module _ (before : Market) (first end : ℕ) (r : Result (Unit {0}) Fault) (after : Market)
-    (kept : TradeKept before) (said : r ≡ answer (shed_reasons first end)) (state : after ≡ outcome r (shed before first end) before) where
-  pub shed_kept : TradeKept after
-  shed_kept = after_has r _ _ _ state TradeKept ((kept.0.0, length_table _ 60, kept.0.2), (kept.1.0, (kept.1.1.0, tt))) kept
+    (kept : OpenTables before) (said : r ≡ answer (shed_reasons first end)) (state : after ≡ outcome r (shed before first end) before) where
+  pub shed_kept : OpenTables after
+  shed_kept = after_has r _ _ _ state OpenTables ((kept.0.0, length_table _ 60, kept.0.2), kept.1, kept.2) kept
 
   pub shed_words : Shed before first end r after
   shed_words = record {
@@ -224,5 +212,5 @@ no_readings (suc n) zero = refl
 no_readings (suc n) (suc k) = no_readings n k
 
 -- a new hour keeps it
-pub empty_kept : (label : ℕ) → TradeKept (empty_market label)
-empty_kept label = ((refl, refl, refl), (no_blocks 64, (no_readings 64, tt)))
+pub empty_kept : (label : ℕ) → OpenTables (empty_market label)
+empty_kept label = ((refl, refl, refl), no_blocks 64, no_readings 64)

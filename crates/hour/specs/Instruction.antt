@@ -18,6 +18,12 @@ next_stage (Matched terms) (Propose other) = None
 next_stage (Matched terms) Confirm = None
 next_stage (Matched terms) Withdraw = Some Free
 
+-- the terms of an instruction, none while it is free
+abbrev pub held_terms : Instruction → Option Terms
+held_terms Free = None
+held_terms (Proposed terms) = Some terms
+held_terms (Matched terms) = Some terms
+
 -- the terms of an instruction, zeros while it is free
 abbrev pub terms_of : Instruction → Terms
 terms_of Free = record { source = 0; sink = 0; kwh = 0 }

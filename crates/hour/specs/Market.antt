@@ -1,11 +1,11 @@
 -- The tables that trading fills, and what each trading call answers and changes. Assumes nothing.
-use Rattle.std.specs.Prelude.{◌≡◌, ℕ, ◌-◌, Bool, false, cond, not, ◌&&◌, ◌||◌, List, [], ◌∷◌, length, replicate, is_some, is_ok, Some, None, Option, Result, ◌==◌, nat_le, nat_lt, slice_index_or, slice_set}
+use Rattle.std.specs.Prelude.{◌≡◌, ℕ, ◌-◌, ◌≤◌, Bool, false, cond, not, ◌&&◌, ◌||◌, List, [], ◌∷◌, length, replicate, is_some, is_ok, Some, None, Option, Result, ◌==◌, nat_le, nat_lt, slice_index_or, slice_set}
 use Rattle.std.specs.Option.{unwrap_or}
 use Rattle.prices.specs.declared.kind.Kind.{Kind}
 use Rattle.prices.specs.declared.kind.Kind.TheVariants.{Generator}
 use Rattle.prices.specs.declared.asset.Asset.{Asset}
 use Rattle.prices.specs.declared.block.Block.{Block}
-use Rattle.prices.specs.Block.{ahead, block_list}
+use Rattle.prices.specs.Block.{price_at, ahead, block_list}
 use Rattle.prices.specs.Asset.{offered}
 use Rattle.hour.specs.declared.fault.Fault.{Fault}
 use Rattle.hour.specs.declared.fault.Fault.TheVariants.{OutOfRange, EnrolledAlready, NotEnrolled, OfferAfterOrder, UnsoundBlocks, WrongMinute, LevelTooHigh}
@@ -71,6 +71,14 @@ with_marks m marks = record {
 -- every table has its full size
 abbrev pub FullTables : Market → Type 0
 FullTables m = (length m.schedule.assets ≡ 64) × (length m.schedule.marked ≡ 60) × (length m.records ≡ 64)
+
+-- block prices of at most 99,999 cents
+abbrev pub CappedPrices : Market → Type 0
+CappedPrices m = (k j : ℕ) → price_at (blocks_at m k) j ≤ 99999
+
+-- what an open hour keeps true of its tables: their sizes, the cap on block prices, and that no asset has a reading
+abbrev pub OpenTables : Market → Type 0
+OpenTables m = FullTables m × CappedPrices m × ((k : ℕ) → is_some (record_at m k).reading ≡ false)
 
 -- nothing enrolled and no minute marked
 abbrev pub empty_market : ℕ → Market

@@ -14,10 +14,11 @@ use Rattle.hour.specs.declared.market.Market.{Market}
 use Rattle.hour.specs.declared.book.Book.{Book}
 use Rattle.hour.specs.Reason.{Reason, when, first_fitting, Rising}
 use Rattle.hour.specs.Market.{asset_at, record_at, outcome}
-use Rattle.hour.specs.Book.{out_reason, run_number}
+use Rattle.hour.specs.Book.{FullBook, out_reason, run_number}
+use Rattle.hour.specs.Range.{Ranged}
 use Rattle.hour.specs.Listing.{listing}
 use Rattle.hour.specs.Charge.{charge_reasons}
-use Rattle.hour.specs.Line.{new_amounts, lines_of, first_beyond}
+use Rattle.hour.specs.Line.{AllWithin, new_amounts, lines_of, first_beyond}
 
 -- the pool price of an hour
 abbrev pub price_of : Book → ℕ
@@ -95,6 +96,10 @@ out_amounts (Some run) = run.amounts
 abbrev pub full_run : Option Run → Bool
 full_run None = true
 full_run (Some run) = length run.amounts == 32
+
+-- what a priced hour keeps true of its tables: their sizes and ranges, and the limits of what is posted and of what is out
+abbrev pub PricedTables : Book → Type 0
+PricedTables b = FullBook b × Ranged b × AllWithin b.posted × AllWithin (out_amounts b.out) × (full_run b.out ≡ true)
 
 -- what a post or a void answers: a slip that does not fit comes back
 abbrev pub slip_answer : Book → Slip → Result (Unit {0}) Returned

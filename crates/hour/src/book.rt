@@ -1,15 +1,14 @@
-ghost use Rattle.std.specs.Prelude.{◌≡◌, ◌-◌, not, is_some, if◌then◌else◌, Ok, Err};
+ghost use Rattle.std.specs.Prelude.{◌≡◌, ◌≤◌, not, is_some, if◌then◌else◌, Ok, Err, ◌==◌};
 ghost use Rattle.hour.specs.declared.fault.Fault.TheVariants.{RunOut};
 ghost use Rattle.hour.specs.Reason.{answer, outside};
 ghost use Rattle.hour.specs.Market.{outcome, record_at};
-ghost use Rattle.hour.specs.Instruction.{terms_of};
 ghost use Rattle.hour.specs.Book.{new_book, run_number, meter_reasons, metered, propose_reasons, proposed, confirm_reasons, confirmed, withdraw_reasons, withdrawn, owner_of};
 
 use crate::fault::Fault;
 use crate::instruction::{Event, Instruction, Terms};
 use crate::line::Amounts;
 use crate::market::Market;
-use crate::number::{check_participant, place_of};
+use crate::number::{ASSETS, INSTRUCTIONS, PARTICIPANTS, place_of};
 use crate::run::Run;
 
 mod runs;
@@ -43,14 +42,7 @@ impl Book {
         Book {
             market,
             instructions: [Instruction::Free; 64],
-            posted: [Amounts {
-                energy: 0,
-                uplift: 0,
-                adjustment: 0,
-                supply_charge: 0,
-                load_charge: 0,
-                net: 0,
-            }; 32],
+            posted: [Amounts::default(); 32],
             draws: 0,
             out: None,
         }
@@ -66,14 +58,13 @@ impl Book {
         }
     }
 
-    // Owner of an asset by its number, 0 if there is none.
-    fn owner_of(&self, asset: u32) -> u32
-        ensures { result ≡ owner_of self.now.market asset }
+    // Whether a participant owns an asset; nobody owns one past the end of the table.
+    fn is_owner(&self, participant: u32, asset: u32) -> bool
+        requires { 1 ≤ participant }
+        ensures { result ≡ (participant == owner_of self.now.market asset) }
     {
-        match self.market.records.get(asset.saturating_sub(1) as usize) {
-            Some(record) => record.owner,
-            None => 0,
-        }
+        let record = self.market.records.get(asset.saturating_sub(1) as usize);
+        record.is_some_and(|record| record.owner == participant)
     }
 
     // Sets an asset's reading in place of its earlier one.
@@ -82,15 +73,14 @@ impl Book {
         ensures state { self.new ≡ outcome result (metered self.old asset kwh) self.old }
     {
         self.check_none_out()?;
-        let place = place_of(asset)?;
+        let place = place_of::<ASSETS>(asset)?;
         if self.market.schedule.assets[place].is_none() {
             return Err(Fault::NotEnrolled(asset));
         }
         if kwh > MOST_ENERGY {
             return Err(Fault::EnergyOutOfRange(asset));
         }
-        let record = &mut self.market.records[place];
-        record.reading = Some(kwh);
+        self.market.records[place].reading = Some(kwh);
         Ok(())
     }
 
@@ -100,9 +90,9 @@ impl Book {
         ensures state { self.new ≡ outcome result (proposed self.old number source sink kwh) self.old }
     {
         self.check_none_out()?;
-        let place = place_of(number)?;
-        let from = place_of(source)?;
-        let to = place_of(sink)?;
+        let place = place_of::<INSTRUCTIONS>(number)?;
+        let from = place_of::<ASSETS>(source)?;
+        let to = place_of::<ASSETS>(sink)?;
         let Some(supplier) = self.market.schedule.assets[from] else {
             return Err(Fault::NotEnrolled(source));
         };
@@ -129,13 +119,13 @@ impl Book {
         ensures state { self.new ≡ outcome result (confirmed self.old number) self.old }
     {
         self.check_none_out()?;
-        let place = place_of(number)?;
-        check_participant(participant)?;
+        let place = place_of::<INSTRUCTIONS>(number)?;
+        place_of::<PARTICIPANTS>(participant)?;
         let current = self.instructions[place];
-        let Some(next) = current.next(Event::Confirm) else {
+        let (Some(terms), Some(next)) = (current.terms(), current.next(Event::Confirm)) else {
             return Err(Fault::WrongStage(number));
         };
-        if participant != self.owner_of(current.terms().sink) {
+        if !self.is_owner(participant, terms.sink) {
             return Err(Fault::WrongParty(participant));
         }
         self.instructions[place] = next;
@@ -148,14 +138,13 @@ impl Book {
         ensures state { self.new ≡ outcome result (withdrawn self.old number) self.old }
     {
         self.check_none_out()?;
-        let place = place_of(number)?;
-        check_participant(participant)?;
+        let place = place_of::<INSTRUCTIONS>(number)?;
+        place_of::<PARTICIPANTS>(participant)?;
         let current = self.instructions[place];
-        let Some(next) = current.next(Event::Withdraw) else {
+        let (Some(terms), Some(next)) = (current.terms(), current.next(Event::Withdraw)) else {
             return Err(Fault::WrongStage(number));
         };
-        let terms = current.terms();
-        if participant != self.owner_of(terms.source) && participant != self.owner_of(terms.sink) {
+        if !self.is_owner(participant, terms.source) && !self.is_owner(participant, terms.sink) {
             return Err(Fault::WrongParty(participant));
         }
         self.instructions[place] = next;

@@ -1,7 +1,8 @@
 ghost use Rattle.std.specs.Prelude.{◌≡◌};
 ghost use Rattle.hour.specs.Fault.{refusal};
-ghost use Rattle.hour.specs.declared.fault.Fault.TheVariants.{Split};
+ghost use Rattle.hour.specs.declared.fault.Fault.TheVariants.{OutOfRange, Split};
 
+use prices::UnknownLetter;
 use splitting::Fault as SplitFault;
 
 // Why a call on an hour is refused; each reason holds its subject.
@@ -114,5 +115,13 @@ impl From<SplitFault> for Fault {
 
     fn from(fault: SplitFault) -> Fault {
         Fault::Split(fault)
+    }
+}
+
+impl From<UnknownLetter> for Fault {
+    ghost from_gives = { λ inner outer. outer ≡ OutOfRange inner.0 };
+
+    fn from(unknown: UnknownLetter) -> Fault {
+        Fault::OutOfRange(unknown.0 as u32)
     }
 }

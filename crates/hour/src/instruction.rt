@@ -1,5 +1,5 @@
 ghost use Rattle.std.specs.Prelude.{◌≡◌, ◌≤◌};
-ghost use Rattle.hour.specs.Instruction.{next_stage, terms_of};
+ghost use Rattle.hour.specs.Instruction.{next_stage, held_terms, terms_of};
 ghost use Rattle.hour.specs.Figure.{matched_by};
 
 // What an instruction moves: kWh from an asset that is a source to one that is a sink, by their numbers.
@@ -40,17 +40,13 @@ impl Instruction {
         }
     }
 
-    // The terms of an instruction, zeros while it is free.
-    pub fn terms(self) -> Terms
-        ensures { result ≡ terms_of self }
+    // The terms of an instruction; none while it is free.
+    pub fn terms(self) -> Option<Terms>
+        ensures { result ≡ held_terms self }
     {
         match self {
-            Instruction::Free => Terms {
-                source: 0,
-                sink: 0,
-                kwh: 0,
-            },
-            Instruction::Proposed(terms) | Instruction::Matched(terms) => terms,
+            Instruction::Free => None,
+            Instruction::Proposed(terms) | Instruction::Matched(terms) => Some(terms),
         }
     }
 

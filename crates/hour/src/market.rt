@@ -5,14 +5,13 @@ ghost use Rattle.hour.specs.Market.{ordered, shed as marked_span};
 
 use crate::blocks::sound_list;
 use crate::fault::Fault;
-use crate::kind::kind_of;
-use crate::minute::{levels_from, marks_between};
-use crate::number::{check_participant, place_of};
+use crate::number::{ASSETS, PARTICIPANTS, place_of};
 use crate::record::Record;
 use margins::whole_offer;
-use prices::{Asset, Block, Schedule};
+use prices::{Asset, Block, Kind, Schedule};
 
 // The tables of an hour that trading fills: the label, the schedule, and a record of each asset by number less one.
+// Records stand beside the schedule's assets and not in them, since prices reads a schedule and knows no owner and no reading.
 #[derive(Drop)]
 pub struct Market {
     pub label: u32,
@@ -31,11 +30,7 @@ impl Market {
                 assets: [None; 64],
                 marked: [false; 60],
             },
-            records: [Record {
-                owner: 0,
-                ordered: None,
-                reading: None,
-            }; 64],
+            records: [Record::default(); 64],
         }
     }
 
@@ -44,9 +39,9 @@ impl Market {
         ensures answer { result ≡ answer (enrol_reasons self.old asset letter owner) }
         ensures state { self.new ≡ outcome result (enrolled self.old asset letter owner) self.old }
     {
-        let place = place_of(asset)?;
-        let kind = kind_of(letter)?;
-        check_participant(owner)?;
+        let place = place_of::<ASSETS>(asset)?;
+        let kind = Kind::try_from(letter)?;
+        place_of::<PARTICIPANTS>(owner)?;
         if self.schedule.assets[place].is_some() {
             return Err(Fault::EnrolledAlready(asset));
         }
@@ -57,8 +52,7 @@ impl Market {
         });
         self.records[place] = Record {
             owner,
-            ordered: None,
-            reading: None,
+            ..Record::default()
         };
         Ok(())
     }
@@ -68,49 +62,44 @@ impl Market {
         ensures answer { result ≡ answer (offer_reasons self.old asset blocks.now) }
         ensures state { self.new ≡ outcome result (offered_blocks self.old asset blocks.now) self.old }
     {
-        let place = place_of(asset)?;
-        let Some(mut entry) = self.schedule.assets[place] else {
+        let place = place_of::<ASSETS>(asset)?;
+        let Some(entry) = &mut self.schedule.assets[place] else {
             return Err(Fault::NotEnrolled(asset));
         };
-        let ordered = self.records[place].ordered;
-        if ordered.is_some() {
+        if self.records[place].ordered.is_some() {
             return Err(Fault::OfferAfterOrder(asset));
         }
         let Some(list) = sound_list(entry.kind, blocks) else {
             return Err(Fault::UnsoundBlocks(asset));
         };
         entry.offer = Some(list);
-        self.schedule.assets[place] = Some(entry);
         Ok(())
     }
 
     // Sets an asset's level from a minute to the end of the hour.
+    #[tactic(auto, using(crate::proofs::Minutes::levels_written))]
     pub fn order(&mut self, asset: u32, minute: u32, level: u32) -> Result<(), Fault>
         ensures answer { result ≡ answer (order_reasons self.old asset minute level) }
         ensures state { self.new ≡ outcome result (ordered self.old asset minute level) self.old }
     {
-        let place = place_of(asset)?;
-        let Some(mut entry) = self.schedule.assets[place] else {
+        let place = place_of::<ASSETS>(asset)?;
+        let Some(entry) = &mut self.schedule.assets[place] else {
             return Err(Fault::NotEnrolled(asset));
         };
-        let record = self.records[place];
-        if minute > 59 || minute < record.ordered.unwrap_or(0) {
+        let record = &mut self.records[place];
+        if minute > 59 || record.ordered.is_some_and(|latest| minute < latest) {
             return Err(Fault::WrongMinute(minute));
         }
-        if entry.blocks().is_empty() || u64::from(level) > whole_offer(&entry) {
+        if entry.blocks().is_empty() || u64::from(level) > whole_offer(entry) {
             return Err(Fault::LevelTooHigh(asset));
         }
-        entry.levels = levels_from(&entry.levels, minute, level);
-        self.schedule.assets[place] = Some(entry);
-        self.records[place] = Record {
-            owner: record.owner,
-            ordered: Some(minute),
-            reading: record.reading,
-        };
+        entry.levels[minute as usize..].fill(level);
+        record.ordered = Some(minute);
         Ok(())
     }
 
     // Marks the minutes from first to end - 1.
+    #[tactic(auto, using(crate::proofs::Minutes::marks_written))]
     pub fn shed(&mut self, first: u32, end: u32) -> Result<(), Fault>
         ensures answer { result ≡ answer (shed_reasons first end) }
         ensures state { self.new ≡ outcome result (marked_span self.old first end) self.old }
@@ -118,7 +107,7 @@ impl Market {
         if first >= end || end > 60 {
             return Err(Fault::WrongMinute(end));
         }
-        self.schedule.marked = marks_between(&self.schedule.marked, first, end);
+        self.schedule.marked[first as usize..end as usize].fill(true);
         Ok(())
     }
 }

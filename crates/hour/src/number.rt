@@ -4,23 +4,20 @@ ghost use Rattle.hour.specs.Reason.{outside};
 
 use crate::fault::Fault;
 
-// Place of an asset or an instruction in its table, by its number from 1 to 64.
-pub fn place_of(number: u32) -> Result<usize, Fault>
-    ensures value { result ≡ (if outside 1 64 number then Err (OutOfRange number) else Ok (number - 1)) }
-    ensures within { IfOk result (λ place. place < 64) }
-{
-    match number {
-        1..=64 => Ok(number as usize - 1),
-        _ => Err(Fault::OutOfRange(number)),
-    }
-}
+// Assets are numbered from 1 to 64, as are instructions, and participants from 1 to 32.
+pub const ASSETS: u32 = 64;
 
-// A participant's number is from 1 to 32.
-pub fn check_participant(number: u32) -> Result<(), Fault>
-    ensures { result ≡ (if outside 1 32 number then Err (OutOfRange number) else Ok tt) }
+pub const INSTRUCTIONS: u32 = 64;
+
+pub const PARTICIPANTS: u32 = 32;
+
+// Place in a table of what is numbered from 1 to COUNT.
+pub fn place_of<const COUNT: u32>(number: u32) -> Result<usize, Fault>
+    ensures value { result ≡ (if outside 1 COUNT number then Err (OutOfRange number) else Ok (number - 1)) }
+    ensures within { IfOk result (λ place. place < COUNT) }
 {
-    match number {
-        1..=32 => Ok(()),
-        _ => Err(Fault::OutOfRange(number)),
+    if number < 1 || number > COUNT {
+        return Err(Fault::OutOfRange(number));
     }
+    Ok(number as usize - 1)
 }

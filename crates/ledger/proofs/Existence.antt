@@ -8,12 +8,12 @@ use Rattle.hour.specs.declared.slip.Slip.{Slip}
 use Rattle.hour.specs.declared.market.Market.{Market}
 use Rattle.hour.specs.declared.book.Book.{Book}
 use Rattle.hour.specs.Reason.{answer, first_fitting}
-use Rattle.hour.specs.Market.{outcome, empty_market, enrol_reasons, enrolled, offer_reasons, offered_blocks, order_reasons, ordered, shed_reasons, shed}
+use Rattle.hour.specs.Market.{OpenTables, outcome, empty_market, enrol_reasons, enrolled, offer_reasons, offered_blocks, order_reasons, ordered, shed_reasons, shed}
 use Rattle.hour.specs.Book.{FullBook, instruction_at, joins, meter_reasons, metered, propose_reasons, proposed, confirm_reasons, confirmed, withdraw_reasons, withdrawn}
 use Rattle.hour.specs.Listing.{listing}
 use Rattle.hour.specs.Line.{new_amounts}
 use Rattle.hour.specs.Run.{drawn_lines, draw_reasons, slip_of, drawn, slip_fits, slip_answer, out_amounts, settled}
-use Rattle.hour.proofs.TradeSteps.{TradeKept, empty_kept, enrol_kept, enrol_words, offer_kept, offer_words, order_kept, order_words, shed_kept, shed_words}
+use Rattle.hour.proofs.TradeSteps.{empty_kept, enrol_kept, enrol_words, offer_kept, offer_words, order_kept, order_words, shed_kept, shed_words}
 use Rattle.hour.proofs.PricedSteps.{meter_words, propose_words, confirm_words, withdraw_words}
 use Rattle.hour.proofs.Tables.{length_table}
 use Rattle.ledger.specs.Trade.{Trade, enrol, offer, order, shedding, LivedTrade, TradeMade, Traded, trades_of}
@@ -28,9 +28,9 @@ record NextTrade (trade : Trade) (before : Market) : Type 0 where
   r : Result (Unit {0}) Fault
   after : Market
   made : TradeMade trade r before after
-  kept : TradeKept after
+  kept : OpenTables after
 
-next_trade : (trade : Trade) (before : Market) → TradeKept before → NextTrade trade before
+next_trade : (trade : Trade) (before : Market) → OpenTables before → NextTrade trade before
 next_trade (enrol asset letter owner) m kept =
     let r = answer (enrol_reasons m asset letter owner) in
     let after = outcome r (enrolled m asset letter owner) m in
@@ -54,7 +54,7 @@ record TradeHistory (label : ℕ) (trades : List Trade) : Type 0 where
   same : trades_of traded ≡ trades
   market : Market
   trading : Traded label traded market
-  kept : TradeKept market
+  kept : OpenTables market
 
 trade_history : (label : ℕ) (trades : List Trade) → TradeHistory label trades
 trade_history label [] = record { traded = []; same = refl; market = empty_market label; trading = refl; kept = empty_kept label }

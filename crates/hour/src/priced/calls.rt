@@ -1,22 +1,18 @@
-ghost use Rattle.std.specs.Prelude.{◌≡◌, ℕ, ◌≤◌, false, is_some};
-ghost use Rattle.prices.specs.Block.{price_at};
-ghost use Rattle.hour.specs.Market.{FullTables, blocks_at, record_at};
+ghost use Rattle.std.specs.Prelude.{◌≡◌};
 ghost use Rattle.hour.specs.Book.{new_book};
 ghost use Rattle.hour.specs.Priced.{Metering, Proposal, Confirmation, Withdrawal};
 
 use crate::book::Book;
 use crate::fault::Fault;
-use crate::market::Market;
 use crate::priced::PricedHour;
+use crate::trading::TradingHour;
 
 impl PricedHour {
     // A priced hour with the tables that trading left.
-    pub(crate) fn open(market: Market) -> PricedHour
-        requires tables { FullTables market }
-        requires offers { (k j : ℕ) → price_at (blocks_at market k) j ≤ 99999 }
-        requires unread { (k : ℕ) → is_some (record_at market k).reading ≡ false }
-        ensures { result.book ≡ new_book market }
+    pub(crate) fn open(trading: TradingHour) -> PricedHour
+        ensures { result.book ≡ new_book trading.market }
     {
+        let TradingHour { market } = trading;
         PricedHour {
             book: Book::new(market),
         }

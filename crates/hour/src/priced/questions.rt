@@ -6,7 +6,7 @@ ghost use Rattle.hour.specs.declared.fault.Fault.TheVariants.{WrongMinute};
 ghost use Rattle.hour.specs.Question.{SetterAnswer, TallyAnswer, enrolled_owner};
 
 use crate::fault::Fault;
-use crate::number::place_of;
+use crate::number::{ASSETS, place_of};
 use crate::priced::PricedHour;
 
 impl PricedHour {
@@ -44,9 +44,7 @@ impl PricedHour {
             return Err(Fault::ListTooShort(64));
         }
         let tally = self.book.market.schedule.tally();
-        for place in 0..64 {
-            counts[place] = tally[place];
-        }
+        counts[..64].copy_from_slice(&tally);
         Ok(())
     }
 
@@ -54,12 +52,8 @@ impl PricedHour {
     pub fn owner(&self, asset: u32) -> Option<u32>
         ensures { result ≡ enrolled_owner self.now.book.market asset }
     {
-        let Ok(place) = place_of(asset) else {
-            return None;
-        };
-        if self.book.market.schedule.assets[place].is_none() {
-            return None;
-        }
-        Some(self.book.market.records[place].owner)
+        let place = place_of::<ASSETS>(asset).ok()?;
+        let is_enrolled = self.book.market.schedule.assets[place].is_some();
+        is_enrolled.then_some(self.book.market.records[place].owner)
     }
 }

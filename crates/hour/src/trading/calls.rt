@@ -52,7 +52,6 @@ impl TradingHour {
         ensures state { result.book ≡ new_book self.market }
         ensures unread { (k : ℕ) → is_some (record_at result.book.market k).reading ≡ false }
     {
-        let TradingHour { market } = self;
-        PricedHour::open(market)
+        PricedHour::open(self)
     }
 }

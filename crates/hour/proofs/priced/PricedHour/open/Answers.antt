@@ -2,8 +2,8 @@ use Rattle.std.proofs.Common.{◌≡◌, ℕ, zero, suc, true, List, get_or, rep
 use Rattle.prices.specs.declared.asset.Asset.{Asset}
 use Rattle.hour.specs.declared.instruction.Instruction.TheVariants.{Free}
 use Rattle.hour.specs.Book.{new_book, joins}
+use Rattle.hour.specs.Run.{PricedTables}
 use Rattle.hour.proofs.TradeSteps.{unread_small}
-use Rattle.hour.proofs.PricedSteps.{Kept}
 use Rattle.hour.proofs.Runs.{nothing_within, none_within}
 use Rattle.hour.proofs.priced.PricedHour.open.Goals as goal
 
@@ -14,10 +14,13 @@ all_free assets (suc n) (suc k) = all_free assets n k
 
 pub invariant_of-result : goal.invariant_of-result
 invariant_of-result c =
-    let m = c.args.market in
-    let kept : Kept (new_book m) = (
-      (c.requires.tables.0, c.requires.tables.1, c.requires.tables.2, refl, refl),
-      (c.requires.offers, (λ k. unread_small _ (c.requires.unread k), (λ k. all_free m.schedule.assets 64 k, (none_within 32, (λ k item. nothing_within item, (refl, tt)))))),
+    let h = c.args.trading in
+    let m = h.market in
+    let kept : PricedTables (new_book m) = (
+      (h.kept.0.0, h.kept.0.1, h.kept.0.2, refl, refl),
+      (h.kept.1, λ k. unread_small _ (h.kept.2 k), λ k. all_free m.schedule.assets 64 k),
+      none_within 32,
+      λ k item. nothing_within item,
+      refl,
     ) in
-    let after : Kept c.new.result = subst Kept (sym c.new.ensures) kept in
-    record { tables = after.0; offers = after.1.0; readings = after.1.1.0; joined = after.1.1.1.0; posted = after.1.1.1.1.0; drawn = after.1.1.1.1.1.0; whole = after.1.1.1.1.1.1.0 }
+    record { kept = subst PricedTables (sym c.new.ensures) kept }

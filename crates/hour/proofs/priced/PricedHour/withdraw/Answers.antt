@@ -1,14 +1,12 @@
-use Rattle.hour.proofs.PricedSteps.{Kept, withdraw_kept, withdraw_words}
+use Rattle.hour.proofs.PricedSteps.{withdraw_kept, withdraw_words}
 use Rattle.hour.proofs.priced.PricedHour.withdraw.Goals as goal
 
 pub invariant_of-self : goal.invariant_of-self
 invariant_of-self c =
     let h = c.args.self.now in
-    let kept : Kept h.book = (h.tables, (h.offers, (h.readings, (h.joined, (h.posted, (h.drawn, (h.whole, tt))))))) in
-    let after : Kept c.withdraw.new.self = withdraw_kept h.book c.args.number c.args.participant c.withdraw.result _ c.withdraw.ensures.answer c.withdraw.ensures.state kept in
-    record { tables = after.0; offers = after.1.0; readings = after.1.1.0; joined = after.1.1.1.0; posted = after.1.1.1.1.0; drawn = after.1.1.1.1.1.0; whole = after.1.1.1.1.1.1.0 }
+    record { kept = withdraw_kept h.book c.args.number c.args.participant c.withdraw.result _ c.withdraw.ensures.answer c.withdraw.ensures.state h.kept }
 
 pub returns : goal.returns
 returns c =
     let h = c.args.self.now in
-    withdraw_words h.book c.args.number c.args.participant c.withdraw.result _ c.withdraw.ensures.answer c.withdraw.ensures.state h.tables
+    withdraw_words h.book c.args.number c.args.participant c.withdraw.result _ c.withdraw.ensures.answer c.withdraw.ensures.state h.kept.0

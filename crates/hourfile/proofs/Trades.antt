@@ -85,7 +85,7 @@ module _ (file : List ℕ) (few : length file ≤ 32768) (m after : Market) (cur
   broken_on = broken_line file few t.items t.through.passed cursor t.through.behind (not_rule t.key (last_key t.items) 5 (omega arith) t.through.latest t.early)
 
   module _ (read : Read) (r : ReadLine file cursor.start cursor.last read) where
-    refused_by : (trade : Trade) → TradeItem read.item trade → (fault : hour.Fault) → TradeMade trade (Err fault) m after → FirstFault file (record { line = cursor.line; fault = of_file.Hour fault })
+    refused_by : (trade : Trade) → TradeItem read.item trade → (fault : hour.Fault) → TradeMade trade (Err fault) m after → FirstFault file (record { line = Some cursor.line; fault = of_file.Hour fault })
     refused_by trade is fault made = stopped file few t.items t.through.passed cursor t.through.behind (of_file.Hour fault) (record {
       read = read;
       stands = subst (λ l. ReadLine file cursor.start l read) t.through.behind.last r;
@@ -118,14 +118,14 @@ module _ (file : List ℕ) (few : length file ≤ 32768) (m after : Market) (cur
         at (Err fault) done e = let z : ◌≡◌ {A = ℕ} 0 1 = cc in absurd (omega arith)
 
     -- the call of a trading line was refused
-    faulty_by : (fault : Fault) (trade : Trade) → TradeItem read.item trade → MadeTrade trade m (Err fault) after → FirstFault file (record { line = cursor.line; fault = fault })
+    faulty_by : (fault : Fault) (trade : Trade) → TradeItem read.item trade → MadeTrade trade m (Err fault) after → FirstFault file (record { line = Some cursor.line; fault = fault })
     faulty_by fault trade is made = at made.said made.made made.carried
       where
-        at : (said : Result (Unit {0}) hour.Fault) → TradeMade trade said m after → Err fault ≡ passed_on true said → FirstFault file (record { line = cursor.line; fault = fault })
+        at : (said : Result (Unit {0}) hour.Fault) → TradeMade trade said m after → Err fault ≡ passed_on true said → FirstFault file (record { line = Some cursor.line; fault = fault })
         at (Ok u) done e = let z : ◌≡◌ {A = ℕ} 0 1 = cc in absurd (omega arith)
         at (Err inner) done e =
             let same : fault ≡ of_file.Hour inner = cc in
-            subst (λ f. FirstFault file (record { line = cursor.line; fault = f })) (sym same) (refused_by trade is inner done)
+            subst (λ f. FirstFault file (record { line = Some cursor.line; fault = f })) (sym same) (refused_by trade is inner done)
 
   not_made : {A : Type 0} → NoTrade m (Ok true) after → A
   not_made n = absurd (both_ways true (let e = n.none in let z : true ≡ false = cc in z) refl)
@@ -156,7 +156,7 @@ module _ (file : List ℕ) (few : length file ≤ 32768) (m after : Market) (cur
   made_on (Instruct number source sink kwh) next r done = not_made done
   made_on (Rule name) next r done = not_made done
 
-  pub refused_on : (fault : Fault) (item : Item) (next : ℕ) → ReadLine file cursor.start cursor.last (record { item = item; next = next }) → call.Traded item m (Err fault) after → FirstFault file (record { line = cursor.line; fault = fault })
+  pub refused_on : (fault : Fault) (item : Item) (next : ℕ) → ReadLine file cursor.start cursor.last (record { item = item; next = next }) → call.Traded item m (Err fault) after → FirstFault file (record { line = Some cursor.line; fault = fault })
   refused_on fault (Hour label) next r done = no_fault fault done
   refused_on fault (Asset asset letter owner) next r done = faulty_by (record { item = Asset asset letter owner; next = next }) r fault _ (asset_item asset letter owner) done
   refused_on fault (Offer asset blocks count) next r done = faulty_by (record { item = Offer asset blocks count; next = next }) r fault _ (offer_item asset blocks count) done

@@ -26,7 +26,7 @@ use Rattle.hourfile.specs.declared.fault.LineFault.{LineFault}
 pub record BrokenHere (file : List ℕ) (cursor : Cursor) (at : LineFault) : Type 0 where
   pub place : ℕ
   pub broken : BrokenLine file cursor.start cursor.last place
-  pub told : at ≡ (record { line = cursor.line; fault = IllFormed place })
+  pub told : at ≡ (record { line = Some cursor.line; fault = IllFormed place })
 
 -- the cursor behind a line that was read here
 abbrev pub beyond : Cursor → Read → Cursor

@@ -29,10 +29,10 @@ impl Cursor {
 
     // A fault of the line that stands here.
     pub fn fault(self, fault: Fault) -> LineFault
-        ensures { result ≡ record { line = self.line; fault = fault } }
+        ensures { result ≡ record { line = Some self.line; fault = fault } }
     {
         LineFault {
-            line: self.line,
+            line: Some(self.line),
             fault,
         }
     }
@@ -61,7 +61,7 @@ impl Cursor {
 
     // Nothing stands behind the last line.
     pub fn check_end(self, file: &[u8]) -> Result<(), LineFault>
-        ensures { result ≡ (if ltb self.start (length file.now) then Err (record { line = self.line; fault = IllFormed 1 }) else Ok tt) }
+        ensures { result ≡ (if ltb self.start (length file.now) then Err (record { line = Some self.line; fault = IllFormed 1 }) else Ok tt) }
     {
         if self.start < file.len() {
             return Err(self.fault(Fault::IllFormed(1)));

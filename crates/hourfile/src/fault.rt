@@ -9,16 +9,18 @@ use hour::Fault as HourFault;
 pub enum Fault {
     // A call on the hour was refused.
     Hour(HourFault),
-    // The file is ill formed; holds the byte place in its line, from 1, or 0 for a file that is too large.
+    // The file has more bytes than are allowed.
+    TooLarge,
+    // The line is ill formed; holds the byte place in it, from 1.
     IllFormed(usize),
     // The caller's text is too short; holds the places needed.
     TextTooShort(usize),
 }
 
-// A fault of a file, and the number of the line at fault from 1; 0 if no line is.
+// A fault of a file, and the number of the line at fault from 1; none if the file as a whole is.
 #[derive(Clone, Copy, Drop)]
 pub struct LineFault {
-    pub line: usize,
+    pub line: Option<usize>,
     pub fault: Fault,
 }
 
@@ -29,7 +31,7 @@ impl Fault {
     {
         match self {
             Fault::Hour(fault) => fault.layer(),
-            Fault::IllFormed(_) | Fault::TextTooShort(_) => 'F',
+            Fault::TooLarge | Fault::IllFormed(_) | Fault::TextTooShort(_) => 'F',
         }
     }
 
@@ -39,7 +41,7 @@ impl Fault {
     {
         match self {
             Fault::Hour(fault) => fault.row(),
-            Fault::IllFormed(_) => 19,
+            Fault::TooLarge | Fault::IllFormed(_) => 19,
             Fault::TextTooShort(_) => 14,
         }
     }
@@ -50,6 +52,7 @@ impl Fault {
     {
         match self {
             Fault::Hour(fault) => fault.subject(),
+            Fault::TooLarge => 0,
             Fault::IllFormed(place) => place as u64,
             Fault::TextTooShort(needed) => needed as u64,
         }

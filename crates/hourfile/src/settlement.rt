@@ -29,15 +29,15 @@ fn settle_hour(file: &[u8]) -> Result<Print, LineFault>
 {
     if is_oversized(file) {
         return Err(LineFault {
-            line: 0,
-            fault: Fault::IllFormed(0),
+            line: None,
+            fault: Fault::TooLarge,
         });
     }
     let (mut hour, rule) = read_hour(file)?;
     let mut lines = [NO_LINE; 32];
     match settle_run(&mut hour, rule, &mut lines) {
         Ok(()) => Ok(statement_of(&hour, &lines[0..hour.line_count()])),
-        Err(fault) => Err(LineFault { line: 0, fault }),
+        Err(fault) => Err(LineFault { line: None, fault }),
     }
 }
 

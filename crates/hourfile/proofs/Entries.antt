@@ -1,5 +1,5 @@
 -- A line of the priced hour behind others: its call is accepted and the hour goes on, or it is the first fault. Assumes nothing.
-use Rattle.std.proofs.Common.{◌≡◌, ℕ, ◌-◌, ◌≤◌, true, ◌&&◌, ltb, leb, List, [], ◌∷◌, length, is_some, Some, None, Ok, Err, Option, Result, sym, refl, ap, ◌∙◌, subst, inl, inr, arith}
+use Rattle.std.proofs.Common.{◌≡◌, ℕ, ◌-◌, ◌<◌, ◌≤◌, true, ◌&&◌, ltb, leb, List, [], ◌∷◌, length, is_some, Some, None, Ok, Err, Option, Result, sym, refl, ap, ◌∙◌, subst, inl, inr, arith}
 use Rattle.std.proofs.lemmas.Bool.{and_parts, cases_eq, leb-true}
 use Rattle.hour.specs.declared.fault.Fault as hour
 use Rattle.hour.specs.declared.book.Book.{Book}
@@ -19,7 +19,7 @@ use Rattle.file.specs.declared.item.Item.TheVariants.{Hour, Asset, Offer, Order,
 use Rattle.file.specs.declared.item.RuleName.{RuleName}
 use Rattle.file.specs.declared.key.Key.{Key}
 use Rattle.hourfile.specs.Call.{Owners, EntryLine, passed_on, Joined, Entered}
-use Rattle.hourfile.specs.Cursor.{BrokenHere, beyond, Through, CameTo, EntryNext, Entering, EntryStep}
+use Rattle.hourfile.specs.Cursor.{BrokenHere, beyond, Through, CameTo, EntryNext, Entering, Ruled}
 use Rattle.hourfile.specs.Lines.{last_key, calls_in, market_in, book_in, reasons}
 use Rattle.hourfile.specs.Outcome.{FirstFault}
 use Rattle.hourfile.specs.declared.cursor.Cursor.{Cursor}
@@ -64,6 +64,11 @@ late last after item allowed =
     at (Meter asset kwh) le = tt
     at (Instruct number source sink kwh) le = tt
     at (Rule name) le = tt
+
+-- what follows a line of the priced hour: the next one, or nothing behind the rule
+abbrev pub EntryStep : List ℕ → Book → Cursor → Cursor → Option RuleName → Type 0
+EntryStep file after cursor next None = (cursor.start < next.start) × Entering file after next
+EntryStep file after cursor next (Some rule) = Ruled file after next rule
 
 module _ (file : List ℕ) (few : length file ≤ 32768) (b after : Book) (cursor : Cursor) (t : Entering file b cursor) where
   pub broken_on : (at : LineFault) → BrokenHere file cursor at → FirstFault file at

@@ -1,4 +1,4 @@
-ghost use Rattle.std.specs.Prelude.{◌≡◌};
+ghost use Rattle.std.specs.Prelude.{◌≡◌, None};
 ghost use Rattle.hourfile.specs.Fault.{refusal};
 ghost use Rattle.hourfile.specs.declared.fault.Fault.TheVariants.{Hour};
 
@@ -64,5 +64,14 @@ impl From<HourFault> for Fault {
 
     fn from(fault: HourFault) -> Fault {
         Fault::Hour(fault)
+    }
+}
+
+// A fault of the file as a whole.
+impl From<Fault> for LineFault {
+    ghost from_gives = { λ fault at. at ≡ (record { line = None; fault = fault }) };
+
+    fn from(fault: Fault) -> LineFault {
+        LineFault { line: None, fault }
     }
 }

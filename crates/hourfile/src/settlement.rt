@@ -3,11 +3,10 @@ ghost use Rattle.hourfile.specs.Print.{lines_of};
 ghost use Rattle.hourfile.specs.Outcome.{Settled, Unsettled, Settles, FaultAnswer};
 
 use crate::fault::{Fault, LineFault};
+use crate::hour_file::HourFile;
 use crate::print::Print;
-use crate::reading::read_hour;
 use crate::run::settle_run;
 use crate::statement::{fault_print, statement_of};
-use file::is_oversized;
 use hour::{Amounts, Line};
 
 // What stands in a list for the lines of a run before it is drawn.
@@ -24,21 +23,14 @@ const NO_LINE: Line = Line {
 };
 
 // Settles the hour of a file; answers its statement.
-fn settle_hour(file: &[u8]) -> Result<Print, LineFault>
-    ensures { MatchResult result (λ print. Settled file.now (lines_of print)) (λ at. Unsettled file.now at) }
+fn settle_hour(bytes: &[u8]) -> Result<Print, LineFault>
+    ensures { MatchResult result (λ print. Settled bytes.now (lines_of print)) (λ at. Unsettled bytes.now at) }
 {
-    if is_oversized(file) {
-        return Err(LineFault {
-            line: None,
-            fault: Fault::TooLarge,
-        });
-    }
-    let (mut hour, rule) = read_hour(file)?;
+    let file = HourFile::new(bytes)?;
+    let (mut hour, rule) = file.read_hour()?;
     let mut lines = [NO_LINE; 32];
-    match settle_run(&mut hour, rule, &mut lines) {
-        Ok(()) => Ok(statement_of(&hour, &lines[0..hour.line_count()])),
-        Err(fault) => Err(LineFault { line: None, fault }),
-    }
+    settle_run(&mut hour, rule, &mut lines)?;
+    Ok(statement_of(&hour, &lines[0..hour.line_count()]))
 }
 
 // Settles the hour of a file and fills the text with its statement or its fault; answers how many bytes that takes.

@@ -7,8 +7,7 @@ pub mod Lines
 pub mod Names
 pub mod Numbers
 pub mod Places
-pub mod Prints
+pub mod Printing
 pub mod Readings
 pub mod Rows
 pub mod Shapes
-pub mod Writes

@@ -1,13 +1,11 @@
 -- The lines of the print, and what is left in the caller's text. Assumes nothing.
-use Rattle.std.specs.Prelude.{◌≡◌, ℕ, ◌<◌, ◌≤◌, List, [], ◌∷◌, ◌++◌, map, length, take, drop, Ok, Err, codes, decimal, Result}
+use Rattle.std.specs.Prelude.{◌≡◌, ℕ, ◌<◌, List, [], ◌∷◌, ◌++◌, length, drop, Ok, Err, codes, decimal, Result}
 use Rattle.std.specs.List.{flat_map}
 use Rattle.std.specs.Fmt.{signed_decimal}
-use Rattle.file.specs.Figure.{figure_text}
 use Rattle.file.specs.Row.{row}
-use Rattle.file.specs.declared.figure.Figure.{Figure}
-use Rattle.file.specs.declared.statement.FigureRow.{FigureRow}
 use Rattle.file.specs.declared.statement.PrintLine.{PrintLine}
 use Rattle.file.specs.declared.statement.PrintLine.TheVariants.{Hour, Price, Amounts, Sum, Fault}
+use Rattle.file.specs.declared.statement.TextTooShort.{TextTooShort}
 
 -- the key of a line of the print with its equals sign
 abbrev pub print_key : PrintLine → List ℕ
@@ -34,19 +32,7 @@ print_text line = print_key line ++ row (print_fields line)
 abbrev pub printed : List PrintLine → List ℕ
 printed lines = flat_map print_text lines
 
--- a row of one figure
-pub record Single (figure : Figure) (figures : FigureRow) : Type 0 where
-  pub places : length figures.held ≡ 7
-  pub count_is : figures.count ≡ 1
-  pub same : take 1 figures.held ≡ figure ∷ []
-
--- figures that print the fields of a line
-pub record Shown (line : PrintLine) (figures : FigureRow) : Type 0 where
-  pub places : length figures.held ≡ 7
-  pub few : figures.count ≤ 7
-  pub fields : map figure_text (take figures.count figures.held) ≡ print_fields line
-
 -- the print fills the front of the text, or the text is too short for it and stays as it was
-abbrev pub Prints : List PrintLine → List ℕ → List ℕ → Result ℕ ℕ → Type 0
+abbrev pub Prints : List PrintLine → List ℕ → List ℕ → Result ℕ TextTooShort → Type 0
 Prints lines old new (Ok count) = (count ≡ length (printed lines)) × (new ≡ printed lines ++ drop (length (printed lines)) old)
-Prints lines old new (Err needed) = (needed ≡ length (printed lines)) × (length old < needed) × (new ≡ old)
+Prints lines old new (Err short) = (short.needed ≡ length (printed lines)) × (length old < short.needed) × (new ≡ old)

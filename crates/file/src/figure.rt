@@ -1,5 +1,9 @@
-ghost use Rattle.std.specs.Prelude.{◌≡◌, ◌+◌, ◌<◌, ◌≤◌, [], ◌∷◌, length, decimal};
-ghost use Rattle.file.specs.Figure.{figure_text, Wrote};
+ghost use Rattle.std.specs.Prelude.{◌≡◌, ◌≤◌, length};
+ghost use Rattle.file.specs.Figure.{figure_text};
+ghost use Rattle.file.specs.declared.figure.Figure.TheVariants.{Natural, Signed};
+
+use arrayvec::ArrayVec;
+use itoa::Buffer;
 
 // A field of a printed line.
 #[derive(Clone, Copy)]
@@ -9,66 +13,50 @@ pub enum Figure {
     Letter(u8),
 }
 
-// How many decimal digits a number has.
-fn digit_count(value: u64) -> usize
-    ensures value { result ≡ length (decimal value) }
-    ensures short { result ≤ 20 }
-{
-    if value < 10 {
-        1
-    } else {
-        digit_count(value / 10) + 1
-    }
-}
+// A figure as it is printed, in at most 20 bytes.
+pub type FigureText = ArrayVec<u8, 20>;
 
-// Writes a byte at a place, and gives the place behind it.
-pub fn write_byte(text: &mut [u8], start: usize, byte: u8) -> usize
-    requires { start < length text.old }
-    ensures { Wrote text.old start (byte ∷ []) text.new result }
+// These bytes as the text of a figure.
+fn short_text(bytes: &[u8]) -> FigureText
+    requires { length bytes.now ≤ 20 }
+    ensures { result.items ≡ bytes.now }
 {
-    text[start] = byte;
-    start + 1
-}
-
-// Writes a number in decimal digits at a place, and gives the place behind it.
-fn write_number(text: &mut [u8], start: usize, value: u64) -> usize
-    requires { start + length (decimal value) ≤ length text.old }
-    ensures { Wrote text.old start (decimal value) text.new result }
-{
-    if value < 10 {
-        return write_byte(text, start, b'0' + value as u8);
-    }
-    let next = write_number(text, start, value / 10);
-    write_byte(text, next, b'0' + (value % 10) as u8)
+    FigureText::try_from(bytes).unwrap()
 }
 
 impl Figure {
-    // How many bytes this figure is printed in.
-    pub fn length(self) -> usize
-        ensures value { result ≡ length (figure_text self) }
-        ensures short { result ≤ 20 }
+    // How this figure is printed.
+    pub fn text(self) -> FigureText
+        ensures { result.items ≡ figure_text self }
     {
         match self {
-            Figure::Natural(value) => digit_count(value),
-            Figure::Signed(value) if value < 0 => digit_count(value.unsigned_abs()) + 1,
-            Figure::Signed(value) => digit_count(value.unsigned_abs()),
-            Figure::Letter(_) => 1,
+            Figure::Natural(value) => short_text(Buffer::new().format(value).as_bytes()),
+            Figure::Signed(value) => short_text(Buffer::new().format(value).as_bytes()),
+            Figure::Letter(letter) => short_text(&[letter]),
         }
     }
+}
 
-    // Writes this figure at a place, and gives the place behind it.
-    pub fn write(self, text: &mut [u8], start: usize) -> usize
-        requires { start + length (figure_text self) ≤ length text.old }
-        ensures { Wrote text.old start (figure_text self) text.new result }
-    {
-        match self {
-            Figure::Natural(value) => write_number(text, start, value),
-            Figure::Signed(value) if value < 0 => {
-                let next = write_byte(text, start, b'-');
-                write_number(text, next, value.unsigned_abs())
-            }
-            Figure::Signed(value) => write_number(text, start, value.unsigned_abs()),
-            Figure::Letter(letter) => write_byte(text, start, letter),
-        }
+impl From<u32> for Figure {
+    ghost from_gives = { λ value figure. figure ≡ Natural value };
+
+    fn from(value: u32) -> Figure {
+        Figure::Natural(u64::from(value))
+    }
+}
+
+impl From<u64> for Figure {
+    ghost from_gives = { λ value figure. figure ≡ Natural value };
+
+    fn from(value: u64) -> Figure {
+        Figure::Natural(value)
+    }
+}
+
+impl From<i64> for Figure {
+    ghost from_gives = { λ value figure. figure ≡ Signed value };
+
+    fn from(value: i64) -> Figure {
+        Figure::Signed(value)
     }
 }

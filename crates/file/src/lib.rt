@@ -22,4 +22,4 @@ pub use item::{Item, RuleName};
 pub use key::Key;
 pub use line::read_line;
 pub use size::{SIZE_LIMIT, is_oversized};
-pub use statement::{PrintLine, print_lines};
+pub use statement::{PrintLine, TextTooShort, print_lines};

@@ -1,7 +1,7 @@
 use crate::item::Item;
 use crate::key::Key;
 use crate::line::read_line;
-use crate::statement::{PrintLine, print_lines};
+use crate::statement::{PrintLine, TextTooShort, print_lines};
 use std::test::Fail;
 
 // The place at which a line that ends the file breaks; 0 if it is sound.
@@ -75,5 +75,8 @@ fn a_print_fills_the_front_of_the_text(rt: HostRuntime) {
     let mut text = [b'?'; 26];
     assert_eq!(rt; print_lines(&lines, &mut text), Ok(23));
     assert!(rt; text == *b"sum=-30\nfault=2,H,3,81\n???");
-    assert_eq!(rt; print_lines(&lines, &mut text[0..9]), Err(23));
+    assert_eq!(rt;
+        print_lines(&lines, &mut text[0..9]),
+        Err(TextTooShort { needed: 23 })
+    );
 }

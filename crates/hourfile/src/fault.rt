@@ -1,7 +1,8 @@
 ghost use Rattle.std.specs.Prelude.{◌≡◌, None};
 ghost use Rattle.hourfile.specs.Fault.{refusal};
-ghost use Rattle.hourfile.specs.declared.fault.Fault.TheVariants.{Hour};
+ghost use Rattle.hourfile.specs.declared.fault.Fault.TheVariants.{Hour, TextTooShort};
 
+use file::TextTooShort;
 use hour::Fault as HourFault;
 
 // Why a file is not settled, or a print not written; each reason holds its subject.
@@ -64,6 +65,14 @@ impl From<HourFault> for Fault {
 
     fn from(fault: HourFault) -> Fault {
         Fault::Hour(fault)
+    }
+}
+
+impl From<TextTooShort> for Fault {
+    ghost from_gives = { λ inner outer. outer ≡ TextTooShort inner.needed };
+
+    fn from(text: TextTooShort) -> Fault {
+        Fault::TextTooShort(text.needed)
     }
 }
 

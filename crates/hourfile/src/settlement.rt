@@ -41,10 +41,7 @@ pub fn settle(file: &[u8], text: &mut [u8]) -> Result<usize, Fault>
         Ok(statement) => statement,
         Err(at) => fault_print(at),
     };
-    match print.write(text) {
-        Ok(count) => Ok(count),
-        Err(needed) => Err(Fault::TextTooShort(needed)),
-    }
+    Ok(print.write(text)?)
 }
 
 // What is at fault in a file; none if its hour can be settled.

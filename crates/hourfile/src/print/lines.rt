@@ -3,7 +3,7 @@ ghost use Rattle.file.specs.Statement.{Prints};
 ghost use Rattle.hourfile.specs.Print.{lines_of};
 
 use crate::print::Print;
-use file::{PrintLine, print_lines};
+use file::{PrintLine, TextTooShort, print_lines};
 
 // What stands behind the lines of a print.
 const NO_LINE: PrintLine = PrintLine::Hour { label: 0 };
@@ -30,7 +30,7 @@ impl Print {
     }
 
     // Writes the lines to the front of the text and gives how many bytes they take; refused with that number if the text is too short.
-    pub fn write(&self, text: &mut [u8]) -> Result<usize, usize>
+    pub fn write(&self, text: &mut [u8]) -> Result<usize, TextTooShort>
         ensures { Prints (lines_of self.now) text.old text.new result }
     {
         print_lines(&self.held[0..self.count], text)

@@ -1,14 +1,10 @@
-use Rattle.std.proofs.Common.{arith}
-use Rattle.file.specs.declared.statement.PrintLine.TheVariants.{Hour}
-use Rattle.file.proofs.Prints.{printed_long, printed_none_left}
+use Rattle.std.proofs.Common.{◌≡◌, length, sym, ◌∙◌, rules}
+use Rattle.std.proofs.lemmas.List.Concat.{length-flat_map}
+use Rattle.std.specs.List.{sum_by}
+use Rattle.file.specs.Statement.{print_text}
 use Rattle.file.proofs.statement.print_length.Goals as goal
 
-pub loop-line-preserved : goal.loop-line-preserved
-loop-line-preserved c =
-    let i = c.loop-line.invariant in (
-      omega (arith, i.0, c.length-total.ensures.short),
-      omega (arith, i.1, c.length-total.ensures.value, printed_long c.args.lines.now c.loop-line.line-index (Hour 0) c.loop-line-test.true),
-    )
-
 pub returns : goal.returns
-returns c = omega (arith, c.loop-line.invariant.1, printed_none_left c.args.lines.now c.loop-line.line-index c.loop-line-test.false)
+returns c =
+    let sums : c.sum.result ≡ sum_by (λ line. length (print_text line)) c.args.lines.now = search rules in
+    sums ∙ sym (length-flat_map print_text c.args.lines.now)

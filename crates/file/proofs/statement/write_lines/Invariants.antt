@@ -1,7 +1,10 @@
-use Rattle.std.proofs.Common.{◌≡◌, ℕ, List, ◌++◌, drop}
-use Rattle.file.specs.Figure.{Wrote}
+use Rattle.std.proofs.Common.{◌≡◌, length, take, drop}
 use Rattle.file.specs.Statement.{printed}
 use Rattle.file.proofs.statement.write_lines.Given as goal
 
 abbrev pub invariant-loop-line : goal.invariant-loop-line
-invariant-loop-line l = (done : List ℕ) × Wrote l.initial.text 0 done l.text l.next × (done ++ printed (drop l.line-index l.lines) ≡ printed l.lines)
+invariant-loop-line l = record {
+  place : l.next ≡ length (printed (take l.line-index l.lines));
+  front : take l.next l.text ≡ printed (take l.line-index l.lines);
+  behind : drop l.next l.text ≡ drop l.next l.initial.text;
+}

@@ -37,10 +37,7 @@ fn settle_hour(bytes: &[u8]) -> Result<Print, LineFault>
 pub fn settle(file: &[u8], text: &mut [u8]) -> Result<usize, Fault>
     ensures { Settles file.now text.old result text.new }
 {
-    let print = match settle_hour(file) {
-        Ok(statement) => statement,
-        Err(at) => fault_print(at),
-    };
+    let print = settle_hour(file).unwrap_or_else(fault_print);
     Ok(print.write(text)?)
 }
 
@@ -48,8 +45,5 @@ pub fn settle(file: &[u8], text: &mut [u8]) -> Result<usize, Fault>
 pub fn find_fault(file: &[u8]) -> Option<LineFault>
     ensures { FaultAnswer file.now result }
 {
-    match settle_hour(file) {
-        Ok(_) => None,
-        Err(at) => Some(at),
-    }
+    settle_hour(file).err()
 }

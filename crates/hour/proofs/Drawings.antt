@@ -1,5 +1,5 @@
 -- What a draw answers and leaves, exit by exit. Assumes nothing.
-use Rattle.std.proofs.Common.{◌≡◌, ℕ, ◌+◌, ◌≤◌, Bool, true, false, cond, ltb, leb, List, [], ◌∷◌, ◌++◌, length, drop, is_some, Some, None, Ok, Err, Result, unwrap_or, sym, refl, ap, ◌∙◌, arith}
+use Rattle.std.proofs.Common.{◌≡◌, ℕ, ◌+◌, ◌≤◌, Bool, true, false, cond, ltb, leb, List, [], ◌∷◌, ◌++◌, map, length, drop, is_some, Some, None, Ok, Err, Result, unwrap_or, sym, refl, ap, ◌∙◌, arith}
 use Rattle.std.proofs.lemmas.List.{length-map}
 use Rattle.std.proofs.lemmas.Bool.{cond-true, cond-false, le-ltb}
 use Rattle.splitting.specs.declared.fault.Fault as splitting
@@ -20,7 +20,8 @@ use Rattle.hour.specs.Listing.{listing}
 use Rattle.hour.specs.Figure.{figure_of}
 use Rattle.hour.specs.Charge.{weighed, weights, stranded, over_limit, charge_reasons, both, charge_answer, charge_table}
 use Rattle.hour.specs.Amounts.{instead, amounts_answer}
-use Rattle.hour.specs.Line.{new_amounts, first_beyond}
+use Rattle.hour.specs.declared.market.Market.{Market}
+use Rattle.hour.specs.Line.{new_amounts, line_of, lines_of, first_beyond}
 use Rattle.hour.specs.Run.{price_of, first_unread, drawn_lines, draw_reasons, slip_of, Drawing}
 use Rattle.hour.proofs.Listings.{listing_short}
 
@@ -61,6 +62,11 @@ four_told false false true true x y rest end = refl
 four_told false false true false x y rest end = refl
 four_told false false false true x y rest end = refl
 four_told false false false false x y rest end = refl
+
+-- the lines of all that are listed are the lines of the run
+pub all_lines : (news posted : List Amounts) (m : Market) (participants : List ℕ) → participants ≡ listing m → map (line_of news posted) participants ≡ lines_of news posted m
+unfolding lines_of
+all_lines news posted m participants same = ap (map (line_of news posted)) same
 
 module _ (shares : ℕ → List ℕ → List ℕ) (price : ℕ) (b : Book) where
   few : (charge : Charge) → length (weights charge price b) ≤ 32

@@ -2,7 +2,6 @@ pub mod Tables
 pub mod Sums
 pub mod Outcomes
 pub mod Soundness
-pub mod Leading
 pub mod Limits
 pub mod Listings
 pub mod Charges

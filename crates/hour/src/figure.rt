@@ -5,11 +5,11 @@ ghost use Rattle.hour.specs.declared.instruction.Instruction.TheVariants.{Free};
 ghost use Rattle.hour.specs.Instruction.{terms_of};
 ghost use Rattle.hour.specs.Figure.{matched_kwh, asset_figure, figure_at, owned, figure_of, listed};
 ghost use Rattle.hour.specs.Run.{unread, first_unread};
-ghost use Rattle.hour.specs.Range.{Ranged, largest_figure};
+ghost use Rattle.hour.specs.Range.{largest_figure};
 
-use crate::book::Book;
 use crate::instruction::Instruction;
 use crate::market::Market;
+use crate::valuation::Valuation;
 use margins::margin_payment;
 use prices::Asset;
 
@@ -57,26 +57,6 @@ fn asset_figure(figure: Figure, price: u32, asset: &Asset, reading: u32, matched
     }
 }
 
-// A figure of the asset at a place.
-fn figure_at(figure: Figure, price: u32, book: &Book, place: usize) -> u64
-    requires place { place < 64 }
-    requires price { price ≤ 100000 }
-    requires ranged { Ranged book.now }
-    ensures value { result ≡ figure_at figure price book.now place }
-    ensures bound { result ≤ largest_figure }
-{
-    match &book.market.schedule.assets[place] {
-        Some(asset) => asset_figure(
-            figure,
-            price,
-            asset,
-            book.market.records[place].reading.unwrap_or(0),
-            matched_kwh(&book.instructions, place as u32 + 1),
-        ),
-        None => 0,
-    }
-}
-
 // Whether the asset at a place is enrolled and has this owner.
 fn is_owned(market: &Market, participant: u32, place: usize) -> bool
     requires { place < 64 }
@@ -86,33 +66,49 @@ fn is_owned(market: &Market, participant: u32, place: usize) -> bool
     asset.is_some() && market.records[place].owner == participant
 }
 
-// A figure of the asset at a place if the participant owns it, else 0.
-fn owned_figure(figure: Figure, price: u32, book: &Book, participant: u32, place: usize) -> u64
-    requires place { place < 64 }
-    requires price { price ≤ 100000 }
-    requires ranged { Ranged book.now }
-    ensures value { result ≡ (if owned book.now.market participant place then figure_at figure price book.now place else 0) }
-    ensures bound { result ≤ largest_figure }
-{
-    if is_owned(&book.market, participant, place) {
-        figure_at(figure, price, book, place)
-    } else {
-        0
+impl Valuation<'_> {
+    // A figure of the asset at a place.
+    fn figure_at(&self, figure: Figure, place: usize) -> u64
+        requires { place < 64 }
+        ensures value { result ≡ figure_at figure self.now.price self.now.book.now place }
+        ensures bound { result ≤ largest_figure }
+    {
+        match &self.book.market.schedule.assets[place] {
+            Some(asset) => asset_figure(
+                figure,
+                self.price,
+                asset,
+                self.book.market.records[place].reading.unwrap_or(0),
+                matched_kwh(&self.book.instructions, place as u32 + 1),
+            ),
+            None => 0,
+        }
     }
-}
 
-// A figure of a participant: the sum over its assets.
-pub fn figure_of(figure: Figure, price: u32, book: &Book, participant: u32) -> u64
-    requires price { price ≤ 100000 }
-    requires ranged { Ranged book.now }
-    ensures value { result ≡ figure_of figure price book.now participant }
-    ensures bound { result ≤ 64 * largest_figure }
-{
-    let mut sum: u64 = 0;
-    for place in 0..64 {
-        sum += owned_figure(figure, price, book, participant, place);
+    // A figure of the asset at a place if the participant owns it, else 0.
+    fn owned_figure(&self, figure: Figure, participant: u32, place: usize) -> u64
+        requires { place < 64 }
+        ensures value { result ≡ (if owned self.now.book.now.market participant place then figure_at figure self.now.price self.now.book.now place else 0) }
+        ensures bound { result ≤ largest_figure }
+    {
+        if is_owned(&self.book.market, participant, place) {
+            self.figure_at(figure, place)
+        } else {
+            0
+        }
     }
-    sum
+
+    // A figure of a participant: the sum over its assets.
+    pub fn figure_of(&self, figure: Figure, participant: u32) -> u64
+        ensures value { result ≡ figure_of figure self.now.price self.now.book.now participant }
+        ensures bound { result ≤ 64 * largest_figure }
+    {
+        let mut sum: u64 = 0;
+        for place in 0..64 {
+            sum += self.owned_figure(figure, participant, place);
+        }
+        sum
+    }
 }
 
 // Whether a participant has an enrolled asset.

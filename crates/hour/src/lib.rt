@@ -20,6 +20,7 @@ mod record;
 mod run;
 mod slip;
 mod trading;
+mod valuation;
 
 pub use fault::Fault;
 pub use line::{Amounts, Line};

@@ -1,33 +1,20 @@
-ghost use Rattle.std.specs.Prelude.{◌≡◌, ◌≤◌, length, take};
+ghost use Rattle.std.specs.Prelude.{◌≡◌};
 ghost use Rattle.hour.specs.Listing.{listing};
 
 use crate::figure::is_listed;
 use crate::market::Market;
+use arrayvec::ArrayVec;
 
-// The participants that get a line, by rising number.
-#[derive(Clone, Copy)]
-pub struct Listing {
-    pub participants: [u32; 32],
-    pub count: usize,
-}
-
-// The participants with an enrolled asset.
-pub fn list_participants(market: &Market) -> Listing
-    ensures listed { take result.count result.participants ≡ listing market.now }
-    ensures count { result.count ≡ length (listing market.now) }
-    ensures few { result.count ≤ 32 }
+// The participants with an enrolled asset, by rising number.
+pub fn list_participants(market: &Market) -> ArrayVec<u32, 32>
+    ensures { result.items ≡ listing market.now }
 {
-    let mut participants = [0; 32];
-    let mut count = 0;
+    let mut participants = ArrayVec::new();
     for place in 0..32u32 {
         let participant = place + 1;
         if is_listed(market, participant) {
-            participants[count] = participant;
-            count += 1;
+            participants.push(participant);
         }
     }
-    Listing {
-        participants,
-        count,
-    }
+    participants
 }

@@ -1,17 +1,19 @@
-ghost use Rattle.std.specs.Prelude.{ℕ, OnOk, slice_index_or};
+ghost use Rattle.std.specs.Prelude.{◌≡◌, ℕ, true, false, if◌then◌else◌, MatchResult, OnOk, slice_index_or};
 ghost use Rattle.hour.specs.Book.{no_amounts};
 ghost use Rattle.hour.specs.Range.{Ranged};
 ghost use Rattle.hour.specs.Line.{Item, amount_of, Within};
-ghost use Rattle.hour.specs.Run.{out_amounts, Drawing, Posting, Voiding};
+ghost use Rattle.hour.specs.Run.{out_amounts, Drawing, Posting, Voiding, slip_fits, settled};
+ghost use Rattle.hour.specs.declared.fault.Fault.TheVariants.{ForeignSlip};
 
 use crate::book::Book;
 use crate::fault::Fault;
 use crate::figure::unread_asset;
 use crate::line::Line;
-use crate::lines::{beyond_limit, copy_lines, run_lines};
+use crate::lines::{Change, beyond_limit};
 use crate::listing::list_participants;
-use crate::run::{Run, new_amounts};
+use crate::run::Run;
 use crate::slip::{Returned, Slip};
+use crate::valuation::Valuation;
 use splitting::Apportion;
 
 // The most draws that an hour accepts.
@@ -26,41 +28,49 @@ impl Book {
         ensures within { OnOk result ((k : ℕ) (item : Item) → Within 10000000000000000 (amount_of item (slice_index_or (out_amounts self.new.out) k no_amounts))) }
     {
         self.check_none_out()?;
-        let listing = list_participants(&self.market);
-        if lines.len() < listing.count {
-            return Err(Fault::ListTooShort(listing.count as u32));
+        let participants = list_participants(&self.market);
+        let count = participants.len();
+        if lines.len() < count {
+            return Err(Fault::ListTooShort(count as u32));
         }
         if let Some(asset) = unread_asset(&self.market) {
             return Err(Fault::ReadingMissing(asset));
         }
         let price = self.market.schedule.pool_price().0;
-        let amounts = new_amounts(rule, price, self)?;
+        let valuation = Valuation {
+            price,
+            book: self,
+            participants: participants.as_slice(),
+        };
+        let amounts = valuation.new_amounts(rule)?;
         if self.draws >= MOST_DRAWS {
             return Err(Fault::DrawsUsedUp);
         }
-        let drawn = run_lines(&self.market, &listing, &amounts, &self.posted);
-        if let Some(participant) = beyond_limit(&drawn[0..listing.count]) {
+        let change = Change {
+            amounts: &amounts,
+            posted: &self.posted,
+        };
+        let drawn = change.lines(&participants);
+        if let Some(participant) = beyond_limit(drawn.as_slice()) {
             return Err(Fault::NetTooLarge(participant));
         }
-        copy_lines(&drawn, listing.count, lines);
+        lines[..count].copy_from_slice(drawn.as_slice());
         let number = self.draws + 1;
         self.draws = number;
         self.out = Some(Run { number, amounts });
         Ok(Slip::new(self.market.label, number))
     }
 
-    // Makes the amounts of the run out the posted ones.
-    pub fn post(&mut self, slip: Slip) -> Result<(), Returned>
-        ensures { Posting self.old slip result self.new }
+    // Takes the run out of the book, or hands back a slip that is not its slip.
+    fn take_run(&mut self, slip: Slip) -> Result<Run, Returned>
+        ensures answer { MatchResult result (λ run. (slip_fits self.old slip ≡ true) × (self.old.out ≡ Some run)) (λ back. (slip_fits self.old slip ≡ false) × (back ≡ record { slip = slip; fault = ForeignSlip slip.run })) }
+        ensures state { self.new ≡ (if slip_fits self.old slip then settled self.old self.old.posted else self.old) }
     {
-        let out = self.out;
-        match out {
+        match self.out {
             Some(run) if slip.is_of(self.market.label, run.number) => {
                 slip.spend(self.market.label, run.number);
-                let amounts = run.amounts;
-                self.posted = amounts;
                 self.out = None;
-                Ok(())
+                Ok(run)
             }
             _ => {
                 let fault = Fault::ForeignSlip(slip.run());
@@ -69,21 +79,21 @@ impl Book {
         }
     }
 
+    // Makes the amounts of the run out the posted ones.
+    pub fn post(&mut self, slip: Slip) -> Result<(), Returned>
+        ensures { Posting self.old slip result self.new }
+    {
+        let run = self.take_run(slip)?;
+        let amounts = run.amounts;
+        self.posted = amounts;
+        Ok(())
+    }
+
     // Drops the run out.
     pub fn void(&mut self, slip: Slip) -> Result<(), Returned>
         ensures { Voiding self.old slip result self.new }
     {
-        let out = self.out;
-        match out {
-            Some(dropped) if slip.is_of(self.market.label, dropped.number) => {
-                slip.spend(self.market.label, dropped.number);
-                self.out = None;
-                Ok(())
-            }
-            _ => {
-                let fault = Fault::ForeignSlip(slip.run());
-                Err(Returned { slip, fault })
-            }
-        }
+        self.take_run(slip)?;
+        Ok(())
     }
 }

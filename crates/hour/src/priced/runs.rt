@@ -4,7 +4,7 @@ ghost use Rattle.hour.specs.Line.{Item, amount_of, Within, posted_at};
 ghost use Rattle.hour.specs.Run.{Drawing, DrawingInWords, Posting, PostingInWords, Voiding, VoidingInWords};
 
 use crate::fault::Fault;
-use crate::line::{Amounts, Line, NO_AMOUNTS};
+use crate::line::{Amounts, Line};
 use crate::lines::amounts_at;
 use crate::listing::list_participants;
 use crate::priced::PricedHour;
@@ -40,7 +40,7 @@ impl PricedHour {
     pub fn line_count(&self) -> usize
         ensures { result ≡ length (listing self.now.book.market) }
     {
-        list_participants(&self.book.market).count
+        list_participants(&self.book.market).len()
     }
 
     // What is posted for a participant; nothing for a number that is none.
@@ -50,7 +50,7 @@ impl PricedHour {
     {
         match participant {
             1..=32 => amounts_at(&self.book.posted, participant),
-            _ => NO_AMOUNTS,
+            _ => Amounts::default(),
         }
     }
 }

@@ -1,5 +1,6 @@
-use Rattle.hour.proofs.Listings.{Written}
+use Rattle.std.proofs.Common.{◌≡◌}
+use Rattle.hour.specs.Listing.{listing_to}
 use Rattle.hour.proofs.listing.list_participants.Given as goal
 
 abbrev pub invariant-loop-place : goal.invariant-loop-place
-invariant-loop-place l = Written l.market l.place l.participants l.count
+invariant-loop-place l = l.participants.items ≡ listing_to l.market l.place

@@ -1,7 +1,7 @@
 use Rattle.std.proofs.Common.{rules}
 use Rattle.prices.proofs.Ranges.{total_more, total_none}
-use Rattle.hour.specs.Charge.{whole_charge}
-use Rattle.hour.proofs.charge.whole_charge.Goals as goal
+use Rattle.hour.specs.Figure.{figure_of}
+use Rattle.hour.proofs.valuation.Valuation.figure_of.Goals as goal
 
 pub loop-place-init : goal.loop-place-init
 loop-place-init c = search (rules, total_none)
@@ -10,5 +10,5 @@ pub loop-place-preserved : goal.loop-place-preserved
 loop-place-preserved c = search (rules, total_more)
 
 pub returns : goal.returns
-unfolding whole_charge
+unfolding figure_of
 returns c = search rules

@@ -6,7 +6,7 @@ use file::TextTooShort;
 use hour::Fault as HourFault;
 
 // Why a file is not settled, or a print not written; each reason holds its subject.
-#[derive(Clone, Copy, Drop)]
+#[derive(Clone, Copy, Debug, Drop)]
 pub enum Fault {
     // A call on the hour was refused.
     Hour(HourFault),
@@ -19,7 +19,7 @@ pub enum Fault {
 }
 
 // A fault of a file, and the number of the line at fault from 1; none if the file as a whole is.
-#[derive(Clone, Copy, Drop)]
+#[derive(Clone, Copy, Debug, Drop)]
 pub struct LineFault {
     pub line: Option<usize>,
     pub fault: Fault,

@@ -7,20 +7,7 @@ use crate::hour_file::HourFile;
 use crate::print::Print;
 use crate::run::settle_run;
 use crate::statement::{fault_print, statement_of};
-use hour::{Amounts, Line};
-
-// What stands in a list for the lines of a run before it is drawn.
-const NO_LINE: Line = Line {
-    participant: 0,
-    amounts: Amounts {
-        energy: 0,
-        uplift: 0,
-        adjustment: 0,
-        supply_charge: 0,
-        load_charge: 0,
-        net: 0,
-    },
-};
+use hour::Line;
 
 // Settles the hour of a file; answers its statement.
 fn settle_hour(bytes: &[u8]) -> Result<Print, LineFault>
@@ -28,7 +15,7 @@ fn settle_hour(bytes: &[u8]) -> Result<Print, LineFault>
 {
     let file = HourFile::new(bytes)?;
     let (mut hour, rule) = file.read_hour()?;
-    let mut lines = [NO_LINE; 32];
+    let mut lines = [Line::default(); 32];
     settle_run(&mut hour, rule, &mut lines)?;
     Ok(statement_of(&hour, &lines[0..hour.line_count()]))
 }

@@ -6,7 +6,7 @@ use prices::UnknownLetter;
 use splitting::Fault as SplitFault;
 
 // Why a call on an hour is refused; each reason holds its subject.
-#[derive(Clone, Copy, Drop)]
+#[derive(Clone, Copy, Debug, Drop)]
 pub enum Fault {
     // A run is out; holds its number.
     RunOut(u32),

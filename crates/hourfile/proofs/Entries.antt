@@ -1,5 +1,5 @@
 -- A line of the priced hour behind others: its call is accepted and the hour goes on, or it is the first fault. Assumes nothing.
-use Rattle.std.proofs.Common.{◌≡◌, ℕ, ◌-◌, ◌≤◌, true, ◌&&◌, ltb, leb, List, [], ◌∷◌, length, is_some, Some, None, Ok, Err, Option, Result, sym, refl, ap, ◌∙◌, subst, inl, inr, arith}
+use Rattle.std.proofs.Common.{◌≡◌, ℕ, ◌-◌, ◌<◌, ◌≤◌, true, ◌&&◌, ltb, leb, List, [], ◌∷◌, length, is_some, Some, None, Ok, Err, Option, Result, sym, refl, ap, ◌∙◌, subst, inl, inr, arith}
 use Rattle.std.proofs.lemmas.Bool.{and_parts, cases_eq, leb-true}
 use Rattle.hour.specs.declared.fault.Fault as hour
 use Rattle.hour.specs.declared.book.Book.{Book}
@@ -19,7 +19,7 @@ use Rattle.file.specs.declared.item.Item.TheVariants.{Hour, Asset, Offer, Order,
 use Rattle.file.specs.declared.item.RuleName.{RuleName}
 use Rattle.file.specs.declared.key.Key.{Key}
 use Rattle.hourfile.specs.Call.{Owners, EntryLine, passed_on, Joined, Entered}
-use Rattle.hourfile.specs.Cursor.{BrokenHere, beyond, Through, CameTo, EntryNext, Entering, EntryStep}
+use Rattle.hourfile.specs.Cursor.{BrokenHere, beyond, Through, CameTo, EntryNext, Entering, Ruled}
 use Rattle.hourfile.specs.Lines.{last_key, calls_in, market_in, book_in, reasons}
 use Rattle.hourfile.specs.Outcome.{FirstFault}
 use Rattle.hourfile.specs.declared.cursor.Cursor.{Cursor}
@@ -65,12 +65,17 @@ late last after item allowed =
     at (Instruct number source sink kwh) le = tt
     at (Rule name) le = tt
 
+-- what follows a line of the priced hour: the next one, or nothing behind the rule
+abbrev pub EntryStep : List ℕ → Book → Cursor → Cursor → Option RuleName → Type 0
+EntryStep file after cursor next None = (cursor.start < next.start) × Entering file after next
+EntryStep file after cursor next (Some rule) = Ruled file after next rule
+
 module _ (file : List ℕ) (few : length file ≤ 32768) (b after : Book) (cursor : Cursor) (t : Entering file b cursor) where
   pub broken_on : (at : LineFault) → BrokenHere file cursor at → FirstFault file at
   broken_on = broken_line file few t.items t.through.passed cursor t.through.behind (not_rule t.key (last_key t.items) 7 (omega arith) t.through.latest t.unruled)
 
   module _ (read : Read) (r : ReadLine file cursor.start cursor.last read) where
-    refused_by : (fault : hour.Fault) → Err fault ≡ answer (reasons t.items read.item) → FirstFault file (record { line = cursor.line; fault = of_file.Hour fault })
+    refused_by : (fault : hour.Fault) → Err fault ≡ answer (reasons t.items read.item) → FirstFault file (record { line = Some cursor.line; fault = of_file.Hour fault })
     refused_by fault said = stopped file few t.items t.through.passed cursor t.through.behind (of_file.Hour fault) (record {
       read = read;
       stands = subst (λ l. ReadLine file cursor.start l read) t.through.behind.last r;
@@ -177,7 +182,7 @@ module _ (file : List ℕ) (few : length file ≤ 32768) (b after : Book) (curso
       })
 
   pub refused_on : (fault : Fault) (item : Item) (next : ℕ) → ReadLine file cursor.start cursor.last (record { item = item; next = next }) → Entered item b (Err fault) after →
-      FirstFault file (record { line = cursor.line; fault = fault })
+      FirstFault file (record { line = Some cursor.line; fault = fault })
   refused_on fault (Hour label) next r done = absurd done
   refused_on fault (Asset asset letter owner) next r done = absurd done
   refused_on fault (Offer asset blocks count) next r done = absurd done
@@ -185,12 +190,12 @@ module _ (file : List ℕ) (few : length file ≤ 32768) (b after : Book) (curso
   refused_on fault (Shed first end) next r done = absurd done
   refused_on fault (Meter asset kwh) next r done = at done.said done.made done.carried
     where
-      at : (said : Result (Unit {0}) hour.Fault) → Metering b asset kwh said after → Err fault ≡ passed_on {A = Option RuleName} None said → FirstFault file (record { line = cursor.line; fault = fault })
+      at : (said : Result (Unit {0}) hour.Fault) → Metering b asset kwh said after → Err fault ≡ passed_on {A = Option RuleName} None said → FirstFault file (record { line = Some cursor.line; fault = fault })
       at (Ok u) made e = let z : ◌≡◌ {A = ℕ} 0 1 = cc in absurd (omega arith)
       at (Err inner) made e =
           let same : fault ≡ of_file.Hour inner = cc in
-          subst (λ f. FirstFault file (record { line = cursor.line; fault = f })) (sym same) (refused_by (record { item = Meter asset kwh; next = next }) r inner (meter_said asset kwh (Err inner) made))
+          subst (λ f. FirstFault file (record { line = Some cursor.line; fault = f })) (sym same) (refused_by (record { item = Meter asset kwh; next = next }) r inner (meter_said asset kwh (Err inner) made))
   refused_on fault (Instruct number source sink kwh) next r done =
-      subst (λ f. FirstFault file (record { line = cursor.line; fault = f })) (sym done.1)
+      subst (λ f. FirstFault file (record { line = Some cursor.line; fault = f })) (sym done.1)
       (refused_by (record { item = Instruct number source sink kwh; next = next }) r done.0 (propose_said number source sink kwh (Err done.0) after done.2))
   refused_on fault (Rule name) next r done = let e = done.0 in let z : ◌≡◌ {A = ℕ} 0 1 = cc in absurd (omega arith)

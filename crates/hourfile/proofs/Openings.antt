@@ -1,5 +1,5 @@
 -- The start of a file, the close of the hour, and the end of the file. Assumes nothing.
-use Rattle.std.proofs.Common.{◌≡◌, ℕ, ◌≤◌, Bool, true, false, cond, ltb, List, [], ◌∷◌, ◌++◌, length, None, Ok, Err, Result, sym, refl, ap, ◌∙◌, subst, inl, arith}
+use Rattle.std.proofs.Common.{◌≡◌, ℕ, ◌≤◌, Bool, true, false, cond, ltb, List, [], ◌∷◌, ◌++◌, length, Some, None, Ok, Err, Result, sym, refl, ap, ◌∙◌, subst, inl, arith}
 use Rattle.std.proofs.lemmas.List.{append-nil, drop_all}
 use Rattle.std.proofs.lemmas.Bool.{both_ways, ltb-true, ltb-false, lt-ltb}
 use Rattle.hour.specs.declared.market.Market.{Market}
@@ -51,12 +51,12 @@ closed file m b cursor t entries is = record {
 
 module _ (file : List ℕ) (few : length file ≤ 32768) (b : Book) (cursor : Cursor) (rule : RuleName) (t : Ruled file b cursor rule) where
   -- something stands behind the line of the rule
-  pub surplus : (at : LineFault) → Err at ≡ cond (ltb cursor.start (length file)) (Err (record { line = cursor.line; fault = IllFormed 1 })) (Ok (tt {0})) → FirstFault file at
+  pub surplus : (at : LineFault) → Err at ≡ cond (ltb cursor.start (length file)) (Err (record { line = Some cursor.line; fault = IllFormed 1 })) (Ok (tt {0})) → FirstFault file at
   surplus at said = by (ltb cursor.start (length file)) refl said
     where
-      by : (more : Bool) → ltb cursor.start (length file) ≡ more → Err at ≡ cond more (Err (record { line = cursor.line; fault = IllFormed 1 })) (Ok (tt {0})) → FirstFault file at
+      by : (more : Bool) → ltb cursor.start (length file) ≡ more → Err at ≡ cond more (Err (record { line = Some cursor.line; fault = IllFormed 1 })) (Ok (tt {0})) → FirstFault file at
       by true e h =
-          let same : at ≡ (record { line = cursor.line; fault = IllFormed 1 }) = cc in
+          let same : at ≡ (record { line = Some cursor.line; fault = IllFormed 1 }) = cc in
           subst (FirstFault file) (sym same) (stopped file few (Rule rule ∷ t.items) t.passed cursor t.behind (IllFormed 1) (record {
             broken = inl (λ key found. both_ways false refl found.allowed, refl);
             more = λ _. ltb-true cursor.start (length file) e;
@@ -64,10 +64,10 @@ module _ (file : List ℕ) (few : length file ≤ 32768) (b : Book) (cursor : Cu
       by false e h = let z : ◌≡◌ {A = ℕ} 0 1 = cc in absurd (omega arith)
 
   -- nothing stands behind the line of the rule
-  pub ended : (u : Unit {0}) → ◌≡◌ {A = Result (Unit {0}) LineFault} (Ok u) (cond (ltb cursor.start (length file)) (Err (record { line = cursor.line; fault = IllFormed 1 })) (Ok tt)) → ReadWhole file b rule
+  pub ended : (u : Unit {0}) → ◌≡◌ {A = Result (Unit {0}) LineFault} (Ok u) (cond (ltb cursor.start (length file)) (Err (record { line = Some cursor.line; fault = IllFormed 1 })) (Ok tt)) → ReadWhole file b rule
   ended u said = by (ltb cursor.start (length file)) refl said
     where
-      by : (more : Bool) → ltb cursor.start (length file) ≡ more → ◌≡◌ {A = Result (Unit {0}) LineFault} (Ok u) (cond more (Err (record { line = cursor.line; fault = IllFormed 1 })) (Ok tt)) → ReadWhole file b rule
+      by : (more : Bool) → ltb cursor.start (length file) ≡ more → ◌≡◌ {A = Result (Unit {0}) LineFault} (Ok u) (cond more (Err (record { line = Some cursor.line; fault = IllFormed 1 })) (Ok tt)) → ReadWhole file b rule
       by true e h = let z : ◌≡◌ {A = ℕ} 0 1 = cc in absurd (omega arith)
       by false e h = record {
         items = t.items;

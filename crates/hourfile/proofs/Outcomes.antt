@@ -1,5 +1,5 @@
 -- The run of a file that was read whole: its statement, or why its draw is refused. Assumes nothing.
-use Rattle.std.proofs.Common.{◌≡◌, ℕ, Bool, true, false, cond, List, [], ◌∷◌, ◌++◌, map, length, take, drop, is_ok, Ok, Err, sym, refl, ap, ◌∙◌, subst, inr, arith}
+use Rattle.std.proofs.Common.{◌≡◌, ℕ, Bool, true, false, cond, List, [], ◌∷◌, ◌++◌, map, length, take, drop, is_ok, None, Ok, Err, sym, refl, ap, ◌∙◌, subst, inr, arith}
 use Rattle.std.proofs.lemmas.List.{length-map, take_at}
 use Rattle.std.proofs.lemmas.Bool.{cond-true}
 use Rattle.splitting.specs.Rule.{Lawful}
@@ -65,7 +65,7 @@ module _ (file : List ℕ) (b : Book) (rule : RuleName) (w : ReadWhole file b ru
   same_book = ruled_book rule w.items ∙ book_is w.items b w.came
 
   -- a refused draw
-  pub undrawn : (fault : Fault) (after : Book) (left : List Line) → DrawRefused (shares_by rule) b list fault after left → Unsettled file (record { line = 0; fault = fault })
+  pub undrawn : (fault : Fault) (after : Book) (left : List Line) → DrawRefused (shares_by rule) b list fault after left → Unsettled file (record { line = None; fault = fault })
   undrawn fault after left d = inr (inr (record {
     rule = rule;
     items = w.items;
@@ -75,7 +75,7 @@ module _ (file : List ℕ) (b : Book) (rule : RuleName) (w : ReadWhole file b ru
         ap (λ x. answer (draw_reasons (shares_by rule) x 32)) same_book
         ∙ ap (λ n. answer (draw_reasons (shares_by rule) b n)) (sym room)
         ∙ refused_alike (draw_reasons (shares_by rule) b (length list)) _ d.inner d.drawing.answer;
-    told = ap (λ f. record { line = 0; fault = f }) d.carried;
+    told = ap (λ f. record { line = None; fault = f }) d.carried;
   }))
 
   module _ (after : Book) (left : List Line) (d : DrawnAndPosted (shares_by rule) b list after left) where

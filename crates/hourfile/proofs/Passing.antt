@@ -76,14 +76,14 @@ module _ (file : List ℕ) (items : List Item) (cursor : Cursor) (b : Behind fil
 
 -- where a line behind lines that passed is wrong, the file has its first fault
 pub stopped : (file : List ℕ) → length file ≤ 32768 → (items : List Item) → Passed items → (cursor : Cursor) → Behind file items cursor → (fault : Fault) → AtFault file cursor.start items fault →
-    FirstFault file (record { line = cursor.line; fault = fault })
+    FirstFault file (record { line = Some cursor.line; fault = fault })
 stopped file few items passed cursor b fault wrong = record {
   few = few;
   items = items;
   start = cursor.start;
   passed = passed;
   behind = b.stands;
-  counted = b.counted;
+  counted = ap Some b.counted;
   wrong = wrong;
 }
 

@@ -1,5 +1,5 @@
 -- A trading line behind others: its call is accepted and the hour goes on, or it is the first fault. Assumes nothing.
-use Rattle.std.proofs.Common.{◌≡◌, ℕ, ◌≤◌, true, false, ◌&&◌, ltb, leb, List, ◌∷◌, length, take, Some, Ok, Err, Result, sym, refl, ap, ◌∙◌, subst, arith}
+use Rattle.std.proofs.Common.{◌≡◌, ℕ, ◌≤◌, true, false, ◌&&◌, ltb, leb, List, ◌∷◌, length, take, Some, None, Ok, Err, Result, sym, refl, ap, ◌∙◌, subst, arith}
 use Rattle.std.proofs.lemmas.Bool.{and_parts, both_ways}
 use Rattle.prices.specs.declared.block.Block.{Block}
 use Rattle.hour.specs.declared.fault.Fault as hour
@@ -16,12 +16,11 @@ use Rattle.file.specs.declared.item.Item.{Item}
 use Rattle.file.specs.declared.item.Item.TheVariants.{Hour, Asset, Offer, Order, Shed, Meter, Instruct, Rule}
 use Rattle.file.specs.declared.key.Key.TheVariants as line-key
 use Rattle.hourfile.specs.Call as call
-use Rattle.hourfile.specs.Call.{EntryLine, passed_on, MadeTrade, NoTrade}
+use Rattle.hourfile.specs.Call.{EntryLine}
 use Rattle.hourfile.specs.Cursor.{BrokenHere, beyond, Trading, EntryNext}
 use Rattle.hourfile.specs.Lines.{last_key, label_in, trades_in, calls_in, market_in, reasons}
 use Rattle.hourfile.specs.Outcome.{FirstFault}
 use Rattle.hourfile.specs.declared.cursor.Cursor.{Cursor}
-use Rattle.hourfile.specs.declared.fault.Fault.{Fault}
 use Rattle.hourfile.specs.declared.fault.Fault.TheVariants as of_file
 use Rattle.hourfile.specs.declared.fault.LineFault.{LineFault}
 use Rattle.hourfile.proofs.Passing.{stopped, broken_line, not_rule, read_once, further, allowed_here, accepted_if, passes}
@@ -85,60 +84,29 @@ module _ (file : List ℕ) (few : length file ≤ 32768) (m after : Market) (cur
   broken_on = broken_line file few t.items t.through.passed cursor t.through.behind (not_rule t.key (last_key t.items) 5 (omega arith) t.through.latest t.early)
 
   module _ (read : Read) (r : ReadLine file cursor.start cursor.last read) where
-    refused_by : (trade : Trade) → TradeItem read.item trade → (fault : hour.Fault) → TradeMade trade (Err fault) m after → FirstFault file (record { line = cursor.line; fault = of_file.Hour fault })
-    refused_by trade is fault made = stopped file few t.items t.through.passed cursor t.through.behind (of_file.Hour fault) (record {
+    refused_by : (fault : hour.Fault) (trade : Trade) → TradeItem read.item trade → TradeMade trade (Err fault) m after → FirstFault file (record { line = Some cursor.line; fault = of_file.Hour fault })
+    refused_by fault trade is made = stopped file few t.items t.through.passed cursor t.through.behind (of_file.Hour fault) (record {
       read = read;
       stands = subst (λ l. ReadLine file cursor.start l read) t.through.behind.last r;
       refuses = sym (is.says t.items m after (Err fault) (market_is t.items t.traded m t.trading t.same_trades) made);
     })
 
-    made_by : (trade : Trade) → TradeItem read.item trade → (u : Unit {0}) → TradeMade trade (Ok u) m after → Trading file after (beyond cursor read)
-    made_by trade is u made = record {
+    made_by : (trade : Trade) → TradeItem read.item trade → TradeMade trade (Ok tt) m after → Trading file after (beyond cursor read)
+    made_by trade is made = record {
       items = read.item ∷ t.items;
       key = key_of read.item;
       through = record {
-        passed = (t.through.passed, passes file t.items cursor t.through.behind read r (accepted_if (reasons t.items read.item) u (is.says t.items m after (Ok u) (market_is t.items t.traded m t.trading t.same_trades) made)));
+        passed = (t.through.passed, passes file t.items cursor t.through.behind read r (accepted_if (reasons t.items read.item) tt (is.says t.items m after (Ok tt) (market_is t.items t.traded m t.trading t.same_trades) made)));
         behind = further file t.items cursor t.through.behind read r;
         latest = refl;
       };
       early = is.early;
       uncalled = is.calls t.items ∙ t.uncalled;
-      labelled = is.keeps m after (Ok u) made ∙ t.labelled ∙ sym (is.label t.items);
-      traded = (trade, Ok u) ∷ t.traded;
-      trading = subst (λ l. Traded l ((trade, Ok u) ∷ t.traded) after) (sym (is.label t.items)) (m, t.trading, made);
+      labelled = is.keeps m after (Ok tt) made ∙ t.labelled ∙ sym (is.label t.items);
+      traded = (trade, Ok tt) ∷ t.traded;
+      trading = subst (λ l. Traded l ((trade, Ok tt) ∷ t.traded) after) (sym (is.label t.items)) (m, t.trading, made);
       same_trades = ap (λ ts. trade ∷ ts) t.same_trades ∙ sym (is.trades t.items);
     }
-
-    -- the call of a trading line was accepted
-    accepted_by : (trade : Trade) → TradeItem read.item trade → MadeTrade trade m (Ok true) after → Trading file after (beyond cursor read)
-    accepted_by trade is made = at made.said made.made made.carried
-      where
-        at : (said : Result (Unit {0}) hour.Fault) → TradeMade trade said m after → Ok true ≡ passed_on true said → Trading file after (beyond cursor read)
-        at (Ok u) done e = made_by trade is u done
-        at (Err fault) done e = let z : ◌≡◌ {A = ℕ} 0 1 = cc in absurd (omega arith)
-
-    -- the call of a trading line was refused
-    faulty_by : (fault : Fault) (trade : Trade) → TradeItem read.item trade → MadeTrade trade m (Err fault) after → FirstFault file (record { line = cursor.line; fault = fault })
-    faulty_by fault trade is made = at made.said made.made made.carried
-      where
-        at : (said : Result (Unit {0}) hour.Fault) → TradeMade trade said m after → Err fault ≡ passed_on true said → FirstFault file (record { line = cursor.line; fault = fault })
-        at (Ok u) done e = let z : ◌≡◌ {A = ℕ} 0 1 = cc in absurd (omega arith)
-        at (Err inner) done e =
-            let same : fault ≡ of_file.Hour inner = cc in
-            subst (λ f. FirstFault file (record { line = cursor.line; fault = f })) (sym same) (refused_by trade is inner done)
-
-  not_made : {A : Type 0} → NoTrade m (Ok true) after → A
-  not_made n = absurd (both_ways true (let e = n.none in let z : true ≡ false = cc in z) refl)
-
-  no_fault : {A : Type 0} (fault : Fault) → NoTrade m (Err fault) after → A
-  no_fault fault n = let e = n.none in let z : ◌≡◌ {A = ℕ} 0 1 = cc in absurd (omega arith)
-
-  never_unmade : {A : Type 0} (trade : Trade) → MadeTrade trade m (Ok false) after → A
-  never_unmade trade made = at made.said made.carried
-    where
-      at : {A : Type 0} (said : Result (Unit {0}) hour.Fault) → Ok false ≡ passed_on true said → A
-      at (Ok u) e = absurd (both_ways true (let z : true ≡ false = cc in z) refl)
-      at (Err fault) e = let z : ◌≡◌ {A = ℕ} 0 1 = cc in absurd (omega arith)
 
   -- a second hour line is not allowed
   no_hour : follows (last_key t.items) line-key.Hour ≡ true → ⊥
@@ -146,38 +114,38 @@ module _ (file : List ℕ) (few : length file ≤ 32768) (m after : Market) (cur
       let here : follows (Some t.key) line-key.Hour ≡ true = subst (λ l. follows l line-key.Hour ≡ true) t.through.latest allowed in
       both_ways false refl (and_parts false (leb (order_of t.key) 0) (and_parts (ltb (order_of t.key) 7) (false && leb (order_of t.key) 0) here).1).0
 
-  pub made_on : (item : Item) (next : ℕ) → ReadLine file cursor.start cursor.last (record { item = item; next = next }) → call.Traded item m (Ok true) after → Trading file after (beyond cursor (record { item = item; next = next }))
-  made_on (Hour label) next r done = not_made done
-  made_on (Asset asset letter owner) next r done = accepted_by (record { item = Asset asset letter owner; next = next }) r _ (asset_item asset letter owner) done
-  made_on (Offer asset blocks count) next r done = accepted_by (record { item = Offer asset blocks count; next = next }) r _ (offer_item asset blocks count) done
-  made_on (Order asset minute level) next r done = accepted_by (record { item = Order asset minute level; next = next }) r _ (order_item asset minute level) done
-  made_on (Shed first end) next r done = accepted_by (record { item = Shed first end; next = next }) r _ (shed_item first end) done
-  made_on (Meter asset kwh) next r done = not_made done
-  made_on (Instruct number source sink kwh) next r done = not_made done
-  made_on (Rule name) next r done = not_made done
+  pub made_on : (item : Item) (next : ℕ) → ReadLine file cursor.start cursor.last (record { item = item; next = next }) → call.Traded item m (Some (Ok tt)) after → Trading file after (beyond cursor (record { item = item; next = next }))
+  made_on (Hour label) next r done = absurd done
+  made_on (Asset asset letter owner) next r done = made_by (record { item = Asset asset letter owner; next = next }) r _ (asset_item asset letter owner) done
+  made_on (Offer asset blocks count) next r done = made_by (record { item = Offer asset blocks count; next = next }) r _ (offer_item asset blocks count) done
+  made_on (Order asset minute level) next r done = made_by (record { item = Order asset minute level; next = next }) r _ (order_item asset minute level) done
+  made_on (Shed first end) next r done = made_by (record { item = Shed first end; next = next }) r _ (shed_item first end) done
+  made_on (Meter asset kwh) next r done = absurd done
+  made_on (Instruct number source sink kwh) next r done = absurd done
+  made_on (Rule name) next r done = absurd done
 
-  pub refused_on : (fault : Fault) (item : Item) (next : ℕ) → ReadLine file cursor.start cursor.last (record { item = item; next = next }) → call.Traded item m (Err fault) after → FirstFault file (record { line = cursor.line; fault = fault })
-  refused_on fault (Hour label) next r done = no_fault fault done
-  refused_on fault (Asset asset letter owner) next r done = faulty_by (record { item = Asset asset letter owner; next = next }) r fault _ (asset_item asset letter owner) done
-  refused_on fault (Offer asset blocks count) next r done = faulty_by (record { item = Offer asset blocks count; next = next }) r fault _ (offer_item asset blocks count) done
-  refused_on fault (Order asset minute level) next r done = faulty_by (record { item = Order asset minute level; next = next }) r fault _ (order_item asset minute level) done
-  refused_on fault (Shed first end) next r done = faulty_by (record { item = Shed first end; next = next }) r fault _ (shed_item first end) done
-  refused_on fault (Meter asset kwh) next r done = no_fault fault done
-  refused_on fault (Instruct number source sink kwh) next r done = no_fault fault done
-  refused_on fault (Rule name) next r done = no_fault fault done
+  pub refused_on : (fault : hour.Fault) (item : Item) (next : ℕ) → ReadLine file cursor.start cursor.last (record { item = item; next = next }) → call.Traded item m (Some (Err fault)) after → FirstFault file (record { line = Some cursor.line; fault = of_file.Hour fault })
+  refused_on fault (Hour label) next r done = absurd done
+  refused_on fault (Asset asset letter owner) next r done = refused_by (record { item = Asset asset letter owner; next = next }) r fault _ (asset_item asset letter owner) done
+  refused_on fault (Offer asset blocks count) next r done = refused_by (record { item = Offer asset blocks count; next = next }) r fault _ (offer_item asset blocks count) done
+  refused_on fault (Order asset minute level) next r done = refused_by (record { item = Order asset minute level; next = next }) r fault _ (order_item asset minute level) done
+  refused_on fault (Shed first end) next r done = refused_by (record { item = Shed first end; next = next }) r fault _ (shed_item first end) done
+  refused_on fault (Meter asset kwh) next r done = absurd done
+  refused_on fault (Instruct number source sink kwh) next r done = absurd done
+  refused_on fault (Rule name) next r done = absurd done
 
   -- a line without a trading call is an entry line
-  entry_at : (item : Item) (next : ℕ) → ReadLine file cursor.start cursor.last (record { item = item; next = next }) → call.Traded item m (Ok false) after → (after ≡ m) × EntryLine item
+  entry_at : (item : Item) (next : ℕ) → ReadLine file cursor.start cursor.last (record { item = item; next = next }) → call.Traded item m None after → (after ≡ m) × EntryLine item
   entry_at (Hour label) next r done = absurd (no_hour (allowed_here file t.items cursor t.through.behind (record { item = Hour label; next = next }) r))
-  entry_at (Asset asset letter owner) next r done = never_unmade _ done
-  entry_at (Offer asset blocks count) next r done = never_unmade _ done
-  entry_at (Order asset minute level) next r done = never_unmade _ done
-  entry_at (Shed first end) next r done = never_unmade _ done
-  entry_at (Meter asset kwh) next r done = (done.same, tt)
-  entry_at (Instruct number source sink kwh) next r done = (done.same, tt)
-  entry_at (Rule name) next r done = (done.same, tt)
+  entry_at (Asset asset letter owner) next r done = absurd done
+  entry_at (Offer asset blocks count) next r done = absurd done
+  entry_at (Order asset minute level) next r done = absurd done
+  entry_at (Shed first end) next r done = absurd done
+  entry_at (Meter asset kwh) next r done = (done, tt)
+  entry_at (Instruct number source sink kwh) next r done = (done, tt)
+  entry_at (Rule name) next r done = (done, tt)
 
-  pub entry_on : (read : Read) → ReadLine file cursor.start cursor.last read → call.Traded read.item m (Ok false) after → (after ≡ m) × EntryNext file cursor
+  pub entry_on : (read : Read) → ReadLine file cursor.start cursor.last read → call.Traded read.item m None after → (after ≡ m) × EntryNext file cursor
   entry_on read r done =
       let here = entry_at read.item read.next r done in
       (here.0, λ other o. subst EntryLine (read_once file cursor.start cursor.last read other r o) here.1)

@@ -19,7 +19,7 @@ use Rattle.file.specs.declared.statement.PrintLine.{PrintLine}
 use Rattle.hourfile.specs.Lines.{written, last_key, reasons, Passes, Passed}
 use Rattle.hourfile.specs.Outcome.{statement, refused_draw, Complete, Settled, Undrawn, IllFormedLine, AtFault, FirstFault, Unsettled, Outcome, FaultOrNone, FaultAnswer}
 use Rattle.hourfile.specs.declared.fault.Fault.{Fault}
-use Rattle.hourfile.specs.declared.fault.Fault.TheVariants.{Hour, IllFormed, TextTooShort}
+use Rattle.hourfile.specs.declared.fault.Fault.TheVariants.{Hour, TooLarge, IllFormed, TextTooShort}
 use Rattle.hourfile.specs.declared.fault.LineFault.{LineFault}
 use Rattle.hourfile.proofs.Passing.{read_once}
 
@@ -112,6 +112,7 @@ module _ (file : List ℕ) (start : ℕ) (items : List Item) where
   not_at_fault (Hour f) within n w =
       not_both (reasons items n.item) f n.passes.accepts
       (ap (λ (x : Item). answer (reasons items x)) (read_once file start (last_key items) (read_next n) w.read (can_read n within) w.stands) ∙ w.refuses)
+  not_at_fault TooLarge within n w = w
   not_at_fault (IllFormed place) within n w = not_broken place (read_next n) (can_read n within) w
   not_at_fault (TextTooShort needed) within n w = w
 
@@ -123,8 +124,11 @@ module _ (file : List ℕ) (start : ℕ) (items : List Item) where
   one_fault (Hour f) (IllFormed q) a b = absurd (not_broken q a.read a.stands b)
   one_fault (IllFormed p) (Hour g) a b = absurd (not_broken p b.read b.stands a)
   one_fault (IllFormed p) (IllFormed q) a b = ap IllFormed (broken_once file start (last_key items) p q a.broken b.broken)
+  one_fault (Hour f) TooLarge a b = absurd b
+  one_fault (IllFormed p) TooLarge a b = absurd b
   one_fault (Hour f) (TextTooShort m) a b = absurd b
   one_fault (IllFormed p) (TextTooShort m) a b = absurd b
+  one_fault TooLarge g a b = absurd a
   one_fault (TextTooShort n) g a b = absurd a
 
 module _ (file : List ℕ) where
@@ -144,7 +148,7 @@ module _ (file : List ℕ) where
       ⊎_elim
       (λ (same : f.items ≡ g.items).
       let starts : f.start ≡ g.start = starts_behind a f ∙ ap (λ (l : List Item). length (written l)) same ∙ sym (starts_behind b g) in
-      let lines : a.line ≡ b.line = f.counted ∙ ap (λ (l : List Item). length l + 1) same ∙ sym g.counted in
+      let lines : a.line ≡ b.line = f.counted ∙ ap (λ (l : List Item). Some (length l + 1)) same ∙ sym g.counted in
       let faults : a.fault ≡ b.fault =
       one_fault file g.start g.items a.fault b.fault
       (subst (λ (s : ℕ). AtFault file s g.items a.fault) starts (subst (λ (l : List Item). AtFault file f.start l a.fault) same f.wrong))
@@ -157,6 +161,7 @@ module _ (file : List ℕ) where
   -- nothing is at fault behind the line of the rule, with which the file ends
   not_behind : (rule : RuleName) (items : List Item) (start : ℕ) (fault : Fault) → start ≡ length file → AtFault file start (line.Rule rule ∷ items) fault → ⊥
   not_behind rule items start (Hour f) end w = both_ways _ refl w.stands.allowed
+  not_behind rule items start TooLarge end w = w
   not_behind rule items start (IllFormed place) end w = let more = w.more refl in absurd (omega arith)
   not_behind rule items start (TextTooShort needed) end w = w
 
@@ -195,7 +200,7 @@ module _ (file : List ℕ) where
       let alike : u.fault ≡ v.fault =
       refused_alike (refused_draw v.rule (line.Rule v.rule ∷ v.items)) u.fault v.fault
       (sym (λ i. refused_draw (same.0 i) (line.Rule (same.0 i) ∷ same.1 i)) ∙ u.refuses) v.refuses in
-      u.told ∙ (λ i. record { line = 0; fault = Hour (alike i) }) ∙ sym v.told
+      u.told ∙ (λ i. record { line = None; fault = Hour (alike i) }) ∙ sym v.told
 
   -- a draw is accepted or refused
   not_undrawn : (lines : List PrintLine) (at : LineFault) → Settled file lines → Undrawn file at → ⊥

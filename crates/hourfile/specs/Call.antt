@@ -1,5 +1,5 @@
 -- What the call of a line answers, by the contract of the call that is made. Assumes nothing.
-use Rattle.std.specs.Prelude.{◌≡◌, ℕ, ◌≤◌, Bool, true, false, take, is_some, Some, None, Ok, Err, Option, Result}
+use Rattle.std.specs.Prelude.{◌≡◌, ℕ, ◌≤◌, true, take, is_some, Some, None, Ok, Err, Option, Result}
 use Rattle.hour.specs.declared.fault.Fault as hour
 use Rattle.hour.specs.declared.market.Market.{Market}
 use Rattle.hour.specs.declared.book.Book.{Book}
@@ -23,18 +23,17 @@ passed_on value (Ok u) = Ok value
 passed_on value (Err fault) = Err (of_file.Hour fault)
 
 -- a trading call was made, and its answer passed on
-pub record MadeTrade (trade : Trade) (before : Market) (r : Result Bool Fault) (after : Market) : Type 0 where
-  pub said : Result (Unit {0}) hour.Fault
-  pub made : TradeMade trade said before after
-  pub carried : r ≡ passed_on true said
+abbrev pub MadeTrade : Trade → Market → Option (Result (Unit {0}) hour.Fault) → Market → Type 0
+MadeTrade trade before (Some said) after = TradeMade trade said before after
+MadeTrade trade before None after = ⊥
 
 -- a line without a trading call changes nothing
-pub record NoTrade (before : Market) (r : Result Bool Fault) (after : Market) : Type 0 where
-  pub none : r ≡ Ok false
-  pub same : after ≡ before
+abbrev pub NoTrade : Market → Option (Result (Unit {0}) hour.Fault) → Market → Type 0
+NoTrade before (Some said) after = ⊥
+NoTrade before None after = after ≡ before
 
 -- the trading call of a line
-abbrev pub Traded : Item → Market → Result Bool Fault → Market → Type 0
+abbrev pub Traded : Item → Market → Option (Result (Unit {0}) hour.Fault) → Market → Type 0
 Traded (Hour label) before r after = NoTrade before r after
 Traded (Asset asset letter owner) before r after = MadeTrade (enrol asset letter owner) before r after
 Traded (Offer asset blocks count) before r after = MadeTrade (offer asset (take count blocks)) before r after

@@ -1,5 +1,5 @@
 -- Where a file is read, and what is known of the lines before. Assumes nothing.
-use Rattle.std.specs.Prelude.{◌≡◌, ℕ, ◌+◌, ◌<◌, true, List, [], ◌∷◌, length, Some, None, Option, nat_lt}
+use Rattle.std.specs.Prelude.{◌≡◌, ℕ, ◌+◌, true, List, [], ◌∷◌, length, Some, nat_lt}
 use Rattle.hour.specs.declared.market.Market.{Market}
 use Rattle.hour.specs.declared.book.Book.{Book}
 use Rattle.hour.specs.Market.{record_at}
@@ -26,7 +26,7 @@ use Rattle.hourfile.specs.declared.fault.LineFault.{LineFault}
 pub record BrokenHere (file : List ℕ) (cursor : Cursor) (at : LineFault) : Type 0 where
   pub place : ℕ
   pub broken : BrokenLine file cursor.start cursor.last place
-  pub told : at ≡ (record { line = cursor.line; fault = IllFormed place })
+  pub told : at ≡ (record { line = Some cursor.line; fault = IllFormed place })
 
 -- the cursor behind a line that was read here
 abbrev pub beyond : Cursor → Read → Cursor
@@ -64,11 +64,6 @@ Opened file label cursor = Through file cursor (Hour label ∷ []) key.Hour
 abbrev pub EntryNext : List ℕ → Cursor → Type 0
 EntryNext file cursor = (read : Read) → ReadLine file cursor.start cursor.last read → EntryLine read.item
 
--- what follows a line: a trading line passed, or the line that stands here is none and nothing was changed
-abbrev pub TradeStep : List ℕ → Market → Cursor → Option Cursor → Market → Type 0
-TradeStep file before cursor (Some next) after = (cursor.start < next.start) × Trading file after next
-TradeStep file before cursor None after = (after ≡ before) × EntryNext file cursor
-
 -- a client of a new hour has come to these tables by the calls of the lines
 pub record CameTo (items : List Item) (b : Book) : Type 0 where
   pub market : Market
@@ -97,11 +92,6 @@ pub record Ruled (file : List ℕ) (b : Book) (cursor : Cursor) (rule : RuleName
   pub passed : Passed (Rule rule ∷ items)
   pub behind : Behind file (Rule rule ∷ items) cursor
   pub came : CameTo items b
-
--- what follows a line of the priced hour: the next one, or nothing behind the rule
-abbrev pub EntryStep : List ℕ → Book → Cursor → Cursor → Option RuleName → Type 0
-EntryStep file after cursor next None = (cursor.start < next.start) × Entering file after next
-EntryStep file after cursor next (Some rule) = Ruled file after next rule
 
 -- the whole file was read, and a client has come to these tables by its calls
 pub record ReadWhole (file : List ℕ) (b : Book) (rule : RuleName) : Type 0 where

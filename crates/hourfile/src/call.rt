@@ -4,33 +4,33 @@ ghost use Rattle.hourfile.specs.Call.{Owners, EntryLine, Traded, Instructed, Ent
 
 use crate::fault::Fault;
 use file::{Item, RuleName};
-use hour::{PricedHour, TradingHour};
+use hour::{Fault as HourFault, PricedHour, TradingHour};
 
-// Makes the trading call of a line; false if the line has none.
-pub fn trade(hour: &mut TradingHour, item: &Item) -> Result<bool, Fault>
+// Makes the trading call of a line, and passes its answer on; none if the line has no trading call.
+pub fn trade(hour: &mut TradingHour, item: &Item) -> Option<Result<(), HourFault>>
     requires { Sound item.now }
     ensures { Traded item.now hour.old.market result hour.new.market }
 {
-    match item {
+    let answer = match item {
         Item::Asset {
             asset,
             letter,
             owner,
-        } => hour.enrol(*asset, *letter, *owner)?,
+        } => hour.enrol(*asset, *letter, *owner),
         Item::Offer {
             asset,
             blocks,
             count,
-        } => hour.offer(*asset, &blocks[0..*count])?,
+        } => hour.offer(*asset, &blocks[0..*count]),
         Item::Order {
             asset,
             minute,
             level,
-        } => hour.order(*asset, *minute, *level)?,
-        Item::Shed { first, end } => hour.shed(*first, *end)?,
-        _ => return Ok(false),
-    }
-    Ok(true)
+        } => hour.order(*asset, *minute, *level),
+        Item::Shed { first, end } => hour.shed(*first, *end),
+        _ => return None,
+    };
+    Some(answer)
 }
 
 // Proposes an instruction and confirms it as the owner of its sink.

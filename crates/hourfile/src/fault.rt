@@ -1,4 +1,4 @@
-ghost use Rattle.std.specs.Prelude.{◌≡◌};
+ghost use Rattle.std.specs.Prelude.{◌≡◌, None};
 ghost use Rattle.hourfile.specs.Fault.{refusal};
 ghost use Rattle.hourfile.specs.declared.fault.Fault.TheVariants.{Hour, TextTooShort};
 
@@ -6,20 +6,22 @@ use file::TextTooShort;
 use hour::Fault as HourFault;
 
 // Why a file is not settled, or a print not written; each reason holds its subject.
-#[derive(Clone, Copy, Drop)]
+#[derive(Clone, Copy, Debug, Drop)]
 pub enum Fault {
     // A call on the hour was refused.
     Hour(HourFault),
-    // The file is ill formed; holds the byte place in its line, from 1, or 0 for a file that is too large.
+    // The file has more bytes than are allowed.
+    TooLarge,
+    // The line is ill formed; holds the byte place in it, from 1.
     IllFormed(usize),
     // The caller's text is too short; holds the places needed.
     TextTooShort(usize),
 }
 
-// A fault of a file, and the number of the line at fault from 1; 0 if no line is.
-#[derive(Clone, Copy, Drop)]
+// A fault of a file, and the number of the line at fault from 1; none if the file as a whole is.
+#[derive(Clone, Copy, Debug, Drop)]
 pub struct LineFault {
-    pub line: usize,
+    pub line: Option<usize>,
     pub fault: Fault,
 }
 
@@ -30,7 +32,7 @@ impl Fault {
     {
         match self {
             Fault::Hour(fault) => fault.layer(),
-            Fault::IllFormed(_) | Fault::TextTooShort(_) => 'F',
+            Fault::TooLarge | Fault::IllFormed(_) | Fault::TextTooShort(_) => 'F',
         }
     }
 
@@ -40,7 +42,7 @@ impl Fault {
     {
         match self {
             Fault::Hour(fault) => fault.row(),
-            Fault::IllFormed(_) => 19,
+            Fault::TooLarge | Fault::IllFormed(_) => 19,
             Fault::TextTooShort(_) => 14,
         }
     }
@@ -51,6 +53,7 @@ impl Fault {
     {
         match self {
             Fault::Hour(fault) => fault.subject(),
+            Fault::TooLarge => 0,
             Fault::IllFormed(place) => place as u64,
             Fault::TextTooShort(needed) => needed as u64,
         }
@@ -70,5 +73,14 @@ impl From<TextTooShort> for Fault {
 
     fn from(text: TextTooShort) -> Fault {
         Fault::TextTooShort(text.needed)
+    }
+}
+
+// A fault of the file as a whole.
+impl From<Fault> for LineFault {
+    ghost from_gives = { λ fault at. at ≡ (record { line = None; fault = fault }) };
+
+    fn from(fault: Fault) -> LineFault {
+        LineFault { line: None, fault }
     }
 }

@@ -5,6 +5,7 @@ mod call;
 mod cursor;
 mod entry;
 mod fault;
+mod hour_file;
 mod print;
 mod reading;
 mod run;

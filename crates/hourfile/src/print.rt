@@ -5,6 +5,7 @@ use file::PrintLine;
 mod lines;
 
 // The lines of a print, the first `count` held: a fault alone, or a statement of at most 35 lines.
+// An array with a count, since a print is Copy and an ArrayVec is not.
 #[derive(Clone, Copy)]
 pub struct Print {
     held: [PrintLine; 35],

@@ -21,7 +21,7 @@ fn draw_and_post<R: Apportion>(
     }
 }
 
-// Draws a run by the rule of this name into the caller's list and posts it.
+// Draws a run by the rule of this name into the caller's list and posts it; each rule is a type of its own, so a name picks the type.
 pub fn settle_run(hour: &mut PricedHour, rule: RuleName, lines: &mut [Line]) -> Result<(), Fault>
     ensures { FirstRun (shares_by rule) hour.old.book lines.old result hour.new.book lines.new }
 {

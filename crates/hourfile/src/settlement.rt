@@ -3,52 +3,28 @@ ghost use Rattle.hourfile.specs.Print.{lines_of};
 ghost use Rattle.hourfile.specs.Outcome.{Settled, Unsettled, Settles, FaultAnswer};
 
 use crate::fault::{Fault, LineFault};
+use crate::hour_file::HourFile;
 use crate::print::Print;
-use crate::reading::read_hour;
 use crate::run::settle_run;
 use crate::statement::{fault_print, statement_of};
-use file::is_oversized;
-use hour::{Amounts, Line};
-
-// What stands in a list for the lines of a run before it is drawn.
-const NO_LINE: Line = Line {
-    participant: 0,
-    amounts: Amounts {
-        energy: 0,
-        uplift: 0,
-        adjustment: 0,
-        supply_charge: 0,
-        load_charge: 0,
-        net: 0,
-    },
-};
+use hour::Line;
 
 // Settles the hour of a file; answers its statement.
-fn settle_hour(file: &[u8]) -> Result<Print, LineFault>
-    ensures { MatchResult result (λ print. Settled file.now (lines_of print)) (λ at. Unsettled file.now at) }
+fn settle_hour(bytes: &[u8]) -> Result<Print, LineFault>
+    ensures { MatchResult result (λ print. Settled bytes.now (lines_of print)) (λ at. Unsettled bytes.now at) }
 {
-    if is_oversized(file) {
-        return Err(LineFault {
-            line: 0,
-            fault: Fault::IllFormed(0),
-        });
-    }
-    let (mut hour, rule) = read_hour(file)?;
-    let mut lines = [NO_LINE; 32];
-    match settle_run(&mut hour, rule, &mut lines) {
-        Ok(()) => Ok(statement_of(&hour, &lines[0..hour.line_count()])),
-        Err(fault) => Err(LineFault { line: 0, fault }),
-    }
+    let file = HourFile::new(bytes)?;
+    let (mut hour, rule) = file.read_hour()?;
+    let mut lines = [Line::default(); 32];
+    settle_run(&mut hour, rule, &mut lines)?;
+    Ok(statement_of(&hour, &lines[0..hour.line_count()]))
 }
 
 // Settles the hour of a file and fills the text with its statement or its fault; answers how many bytes that takes.
 pub fn settle(file: &[u8], text: &mut [u8]) -> Result<usize, Fault>
     ensures { Settles file.now text.old result text.new }
 {
-    let print = match settle_hour(file) {
-        Ok(statement) => statement,
-        Err(at) => fault_print(at),
-    };
+    let print = settle_hour(file).unwrap_or_else(fault_print);
     Ok(print.write(text)?)
 }
 
@@ -56,8 +32,5 @@ pub fn settle(file: &[u8], text: &mut [u8]) -> Result<usize, Fault>
 pub fn find_fault(file: &[u8]) -> Option<LineFault>
     ensures { FaultAnswer file.now result }
 {
-    match settle_hour(file) {
-        Ok(_) => None,
-        Err(at) => Some(at),
-    }
+    settle_hour(file).err()
 }

@@ -5,9 +5,10 @@ mod error;
 mod reason;
 mod sentence;
 
-use error::Error;
+use error::Stop;
 use file::SIZE_LIMIT;
 use hourfile::{find_fault, settle};
+use sentence::Sentence;
 use std::env;
 use std::io::{Read, Write};
 use std::process::ExitCode;
@@ -22,7 +23,7 @@ The statement, or the fault of the file, is written to standard output.
 A fault is also put into words on standard error, and the status is then 1.";
 
 // Standard input up to one byte past the size limit.
-fn read_file(rt: &HostRuntime) -> Result<Vec<u8>, Error> {
+fn read_file(rt: &HostRuntime) -> Result<Vec<u8>, Stop> {
     let mut bytes = Vec::new(rt.alloc());
     rt.stdin()
         .take(SIZE_LIMIT as u64 + 1)
@@ -31,21 +32,21 @@ fn read_file(rt: &HostRuntime) -> Result<Vec<u8>, Error> {
 }
 
 // Settles standard input.
-fn settle_input(rt: &HostRuntime) -> Result<(), Error> {
+fn settle_input(rt: &HostRuntime) -> Result<(), Stop> {
     let file = read_file(rt)?;
     let mut text = [0; TEXT_SIZE];
-    match settle(&file, &mut text) {
-        Ok(count) => rt.stdout().write_all(&text[0..count])?,
-        Err(_) => return Err(Error::TextTooShort),
-    }
+    let Ok(count) = settle(&file, &mut text) else {
+        return Err(Stop::TextTooShort);
+    };
+    rt.stdout().write_all(&text[0..count])?;
     match find_fault(&file) {
-        Some(at) => Err(Error::Fault(at)),
+        Some(at) => Err(Stop::Fault(Sentence(at))),
         None => Ok(()),
     }
 }
 
 // Runs the program by its arguments.
-fn run(rt: &HostRuntime) -> Result<(), Error> {
+fn run(rt: &HostRuntime) -> Result<(), Stop> {
     let mut arguments = env::args(rt)?;
     let _name = arguments.next();
     match arguments.next() {
@@ -54,15 +55,15 @@ fn run(rt: &HostRuntime) -> Result<(), Error> {
             println!(rt; "{USAGE}")?;
             Ok(())
         }
-        Some(_) => Err(Error::Usage),
+        Some(_) => Err(Stop::Usage),
     }
 }
 
 fn main(rt: HostRuntime) -> ExitCode {
     match run(&rt) {
         Ok(()) => ExitCode::SUCCESS,
-        Err(error) => {
-            let _ = eprintln!(rt; "hoursettle: {error}");
+        Err(stop) => {
+            let _ = eprintln!(rt; "hoursettle: {stop}");
             ExitCode::FAILURE
         }
     }

@@ -5,11 +5,11 @@ ghost use Rattle.hourfile.specs.Print.{lines_of};
 use crate::print::Print;
 use file::{PrintLine, TextTooShort, print_lines};
 
-// What stands behind the lines of a print.
+// What stands behind the lines of a print; each variant of a line holds figures, so none is a default.
 const NO_LINE: PrintLine = PrintLine::Hour { label: 0 };
 
 impl Print {
-    // A print without lines.
+    // A print without lines; a struct with ghost fields derives no default.
     pub fn new() -> Print
         ensures { lines_of result ≡ [] }
     {

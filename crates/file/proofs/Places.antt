@@ -130,11 +130,11 @@ stands_more file start next text byte after s inside e a =
       same = ap (λ (n : ℕ). between start n file) a ∙ between_more file start next 0 s.order inside ∙ ap (λ (t : List ℕ). t ++ get_or file next 0 ∷ []) s.same ∙ ap (λ (b : ℕ). text ++ b ∷ []) e;
     }
 
--- a place that a `?` passes on
-pub err_passed : {A : Type 0} (P : A → Type 0) (Q : ℕ → Type 0) (place : ℕ) (r : Result A ℕ) → IsErrAnd r (λ y. y ≡ place) → Q place → MatchResult r P Q
-err_passed {A = A} P Q place r e q =
+-- an error that a `?` passes on
+pub err_passed : {A E : Type 0} (P : A → Type 0) (Q : E → Type 0) (error : E) (r : Result A E) → IsErrAnd r (λ y. y ≡ error) → Q error → MatchResult r P Q
+err_passed {A = A} {E = E} P Q error r e q =
     let p = err_from_is_err_and r e in
-    subst (λ (x : Result A ℕ). MatchResult x P Q) (sym p.1) (subst Q (sym p.2) q)
+    subst (λ (x : Result A E). MatchResult x P Q) (sym p.1) (subst Q (sym p.2) q)
 
 -- a text stands where the file goes on with it
 pub stands_from_drop : (file : List ℕ) (start : ℕ) (text more : List ℕ) → start ≤ length file → drop start file ≡ text ++ more → Stands file start (start + length text) text

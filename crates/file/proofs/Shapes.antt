@@ -13,6 +13,7 @@ use Rattle.file.specs.Row.{row, ending}
 use Rattle.file.specs.declared.field.End.{End}
 use Rattle.file.specs.declared.field.End.TheVariants.{Comma, Line}
 use Rattle.file.specs.declared.field.Field.{Field}
+use Rattle.file.specs.declared.broken.BrokenForm.{BrokenForm}
 use Rattle.file.specs.declared.item.Item.{Item}
 use Rattle.file.specs.declared.item.Item.TheVariants.{Hour, Asset, Offer, Order, Shed, Meter, Instruct, Rule}
 use Rattle.file.specs.declared.item.RuleName.{RuleName}
@@ -249,9 +250,9 @@ pub letter_row_stands : (file : List ℕ) (start letter mid next : ℕ) (rest : 
 letter_row_stands file start letter mid next rest n some s =
     row_stands file start mid next (letter ∷ []) 44 rest n.stands (sym (ending_some rest some)) s
 
--- a place that a `?` passes on
-pub passed_on : (k : Key) (file : List ℕ) (start place : ℕ) (r : Result Read ℕ) → IsErrAnd r (λ y. y ≡ place) → BreaksAt (RowForm (FieldsOf k)) file start place → ReadsBody k file start r
-passed_on k file start place r e b = err_passed (λ read. ReadBody k file start read) (λ y. BreaksAt (Body k) file start y) place r e (body_breaks k file start place b)
+-- an error that a `?` passes on
+pub passed_on : (k : Key) (file : List ℕ) (start : ℕ) (broken : BrokenForm) (r : Result Read BrokenForm) → IsErrAnd r (λ y. y ≡ broken) → BreaksAt (RowForm (FieldsOf k)) file start broken.place → ReadsBody k file start r
+passed_on k file start broken r e b = err_passed (λ read. ReadBody k file start read) (λ y. BreaksAt (Body k) file start y.place) broken r e (body_breaks k file start broken.place b)
 
 pub two_stand : (file : List ℕ) (start : ℕ) (a b : Field) → ReadNumber Comma file start a → ReadNumber Line file a.next b →
     Stands file start b.next (row (decimal a.value ∷ decimal b.value ∷ []))

@@ -1,6 +1,7 @@
 ghost use Rattle.std.specs.Prelude.{◌≤◌, length};
 ghost use Rattle.file.specs.Body.{ReadsBody};
 
+use crate::broken::BrokenForm;
 use crate::field::{End, read_field, read_letter};
 use crate::item::Item;
 use crate::key::Key;
@@ -14,7 +15,7 @@ pub struct Read {
 
 // Each of these reads what stands behind a key, or gives the first place that breaks the form of the key's lines.
 
-pub fn read_hour(file: &[u8], start: usize) -> Result<Read, usize>
+pub fn read_hour(file: &[u8], start: usize) -> Result<Read, BrokenForm>
     requires { start ≤ length file.now }
     ensures { ReadsBody Key.Hour file.now start result }
 {
@@ -25,7 +26,7 @@ pub fn read_hour(file: &[u8], start: usize) -> Result<Read, usize>
     })
 }
 
-pub fn read_asset(file: &[u8], start: usize) -> Result<Read, usize>
+pub fn read_asset(file: &[u8], start: usize) -> Result<Read, BrokenForm>
     requires { start ≤ length file.now }
     ensures { ReadsBody Key.Asset file.now start result }
 {
@@ -42,7 +43,7 @@ pub fn read_asset(file: &[u8], start: usize) -> Result<Read, usize>
     })
 }
 
-pub fn read_order(file: &[u8], start: usize) -> Result<Read, usize>
+pub fn read_order(file: &[u8], start: usize) -> Result<Read, BrokenForm>
     requires { start ≤ length file.now }
     ensures { ReadsBody Key.Order file.now start result }
 {
@@ -59,7 +60,7 @@ pub fn read_order(file: &[u8], start: usize) -> Result<Read, usize>
     })
 }
 
-pub fn read_shed(file: &[u8], start: usize) -> Result<Read, usize>
+pub fn read_shed(file: &[u8], start: usize) -> Result<Read, BrokenForm>
     requires { start ≤ length file.now }
     ensures { ReadsBody Key.Shed file.now start result }
 {
@@ -74,7 +75,7 @@ pub fn read_shed(file: &[u8], start: usize) -> Result<Read, usize>
     })
 }
 
-pub fn read_meter(file: &[u8], start: usize) -> Result<Read, usize>
+pub fn read_meter(file: &[u8], start: usize) -> Result<Read, BrokenForm>
     requires { start ≤ length file.now }
     ensures { ReadsBody Key.Meter file.now start result }
 {
@@ -89,7 +90,7 @@ pub fn read_meter(file: &[u8], start: usize) -> Result<Read, usize>
     })
 }
 
-pub fn read_instruct(file: &[u8], start: usize) -> Result<Read, usize>
+pub fn read_instruct(file: &[u8], start: usize) -> Result<Read, BrokenForm>
     requires { start ≤ length file.now }
     ensures { ReadsBody Key.Instruct file.now start result }
 {

@@ -2,6 +2,7 @@ ghost use Rattle.std.specs.Prelude.{◌≡◌, ◌≤◌, length, Decides, Match
 ghost use Rattle.file.specs.Field.{allowed, NumberField, ReadNumber, Capital, LetterField, ReadLetter};
 ghost use Rattle.file.specs.Place.{BreaksAt};
 
+use crate::broken::BrokenForm;
 use crate::number::read_number;
 
 // The bytes that may end a field.
@@ -35,9 +36,9 @@ pub struct Field {
 }
 
 // Reads a number and the byte that ends it, or gives the place that breaks this form.
-pub fn read_field(file: &[u8], start: usize, end: End) -> Result<Field, usize>
+pub fn read_field(file: &[u8], start: usize, end: End) -> Result<Field, BrokenForm>
     requires { start ≤ length file.now }
-    ensures { MatchResult result (λ field. ReadNumber end file.now start field) (λ place. BreaksAt (NumberField end) file.now start place) }
+    ensures { MatchResult result (λ field. ReadNumber end file.now start field) (λ broken. BreaksAt (NumberField end) file.now start broken.place) }
 {
     let number = read_number(file, start);
     let next = number.next;
@@ -48,7 +49,7 @@ pub fn read_field(file: &[u8], start: usize, end: End) -> Result<Field, usize>
             next: next + 1,
         });
     }
-    Err(next)
+    Err(BrokenForm { place: next })
 }
 
 // Whether a byte is a letter from A to Z.
@@ -62,16 +63,16 @@ fn is_capital(byte: u8) -> bool
 }
 
 // Reads a letter and the comma that ends it, or gives the place that breaks this form.
-pub fn read_letter(file: &[u8], start: usize) -> Result<(char, usize), usize>
+pub fn read_letter(file: &[u8], start: usize) -> Result<(char, usize), BrokenForm>
     requires { start ≤ length file.now }
-    ensures { MatchResult result (λ read. ReadLetter file.now start read.0 read.1) (λ place. BreaksAt LetterField file.now start place) }
+    ensures { MatchResult result (λ read. ReadLetter file.now start read.0 read.1) (λ broken. BreaksAt LetterField file.now start broken.place) }
 {
     if start >= file.len() || !is_capital(file[start]) {
-        return Err(start);
+        return Err(BrokenForm { place: start });
     }
     let comma = start + 1;
     if comma >= file.len() || file[comma] != b',' {
-        return Err(comma);
+        return Err(BrokenForm { place: comma });
     }
     Ok((char::from(file[start]), comma + 1))
 }

@@ -2,6 +2,7 @@
 #![tactic(auto)]
 
 mod body;
+mod broken;
 mod field;
 mod figure;
 mod item;
@@ -18,6 +19,7 @@ mod statement;
 mod tests;
 
 pub use body::Read;
+pub use broken::BrokenForm;
 pub use item::{Item, RuleName};
 pub use key::Key;
 pub use line::read_line;

@@ -3,12 +3,13 @@ ghost use Rattle.file.specs.Body.{ReadsBody};
 ghost use Rattle.file.specs.Line.{ReadsLine, Exactly};
 
 use crate::body::{Read, read_asset, read_hour, read_instruct, read_meter, read_order, read_shed};
+use crate::broken::BrokenForm;
 use crate::key::{Key, read_key};
 use crate::offer::read_offer;
 use crate::rule::read_rule;
 
 // Reads what stands behind a key, or gives the first place that breaks the form of the key's lines.
-fn read_body(key: Key, file: &[u8], start: usize) -> Result<Read, usize>
+fn read_body(key: Key, file: &[u8], start: usize) -> Result<Read, BrokenForm>
     requires { start ≤ length file.now }
     ensures { ReadsBody key file.now start result }
 {
@@ -25,23 +26,25 @@ fn read_body(key: Key, file: &[u8], start: usize) -> Result<Read, usize>
 }
 
 // Finds the key of the line at a place and reads what stands behind it, or gives the place in the line, from 1, that breaks its form.
-fn scan_line(file: &[u8], start: usize, last: Option<Key>) -> Result<Read, usize>
+fn scan_line(file: &[u8], start: usize, last: Option<Key>) -> Result<Read, BrokenForm>
     ensures { ReadsLine file.now start last result }
 {
     if start > file.len() {
-        return Err(1);
+        return Err(BrokenForm { place: 1 });
     }
     let Some(key) = read_key(file, start, last) else {
-        return Err(1);
+        return Err(BrokenForm { place: 1 });
     };
     match read_body(key, file, start + key.text().len()) {
         Ok(read) => Ok(read),
-        Err(place) => Err(place - start + 1),
+        Err(broken) => Err(BrokenForm {
+            place: broken.place - start + 1,
+        }),
     }
 }
 
 // Reads the line at a place, whose key may follow the last one, or gives the place in the line, from 1, that breaks its form.
-pub fn read_line(file: &[u8], start: usize, last: Option<Key>) -> Result<Read, usize>
+pub fn read_line(file: &[u8], start: usize, last: Option<Key>) -> Result<Read, BrokenForm>
     ensures reads { ReadsLine file.now start last result }
     ensures exactly { Exactly file.now start last result }
 {

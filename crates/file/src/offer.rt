@@ -4,6 +4,7 @@ ghost use Rattle.file.specs.Offer.{BlockField, ReadBlock, block_end, BlockRow, R
 ghost use Rattle.file.specs.Place.{BreaksAt};
 
 use crate::body::Read;
+use crate::broken::BrokenForm;
 use crate::field::{End, read_field};
 use crate::item::Item;
 use crate::key::Key;
@@ -29,9 +30,9 @@ struct BlocksRead {
 const NO_BLOCK: Block = Block { size: 0, price: 0 };
 
 // Reads a block and the byte that ends it, or gives the place that breaks this form.
-fn read_block(file: &[u8], start: usize, end: End) -> Result<BlockRead, usize>
+fn read_block(file: &[u8], start: usize, end: End) -> Result<BlockRead, BrokenForm>
     requires { start ≤ length file.now }
-    ensures { MatchResult result (λ read. ReadBlock end file.now start read) (λ place. BreaksAt (BlockField end) file.now start place) }
+    ensures { MatchResult result (λ read. ReadBlock end file.now start read) (λ broken. BreaksAt (BlockField end) file.now start broken.place) }
 {
     let size = read_field(file, start, End::Colon)?;
     let price = read_field(file, size.next, end)?;
@@ -57,9 +58,9 @@ fn block_end(before: usize) -> End
 }
 
 // Reads 1 to 7 blocks up to the line feed, or gives the place that breaks this form.
-fn read_blocks(file: &[u8], start: usize) -> Result<BlocksRead, usize>
+fn read_blocks(file: &[u8], start: usize) -> Result<BlocksRead, BrokenForm>
     requires { start ≤ length file.now }
-    ensures { MatchResult result (λ read. ReadBlocks file.now start read) (λ place. BreaksAt (BlockRow 7) file.now start place) }
+    ensures { MatchResult result (λ read. ReadBlocks file.now start read) (λ broken. BreaksAt (BlockRow 7) file.now start broken.place) }
 {
     let mut held = [NO_BLOCK; 7];
     let mut count = 0;
@@ -76,7 +77,7 @@ fn read_blocks(file: &[u8], start: usize) -> Result<BlocksRead, usize>
 }
 
 // Reads the asset and the blocks of an offer, or gives the place that breaks this form.
-pub fn read_offer(file: &[u8], start: usize) -> Result<Read, usize>
+pub fn read_offer(file: &[u8], start: usize) -> Result<Read, BrokenForm>
     requires { start ≤ length file.now }
     ensures { ReadsBody Key.Offer file.now start result }
 {

@@ -4,6 +4,7 @@ ghost use Rattle.file.specs.Item.{rule_text};
 ghost use Rattle.file.specs.Rule.{OnlyName};
 
 use crate::body::Read;
+use crate::broken::BrokenForm;
 use crate::item::{Item, RuleName};
 use crate::key::Key;
 use crate::literal::agreement;
@@ -30,7 +31,7 @@ fn name_at(file: &[u8], start: usize) -> RuleName
 }
 
 // Reads the name of a rule, or gives the first place that breaks both names.
-pub fn read_rule(file: &[u8], start: usize) -> Result<Read, usize>
+pub fn read_rule(file: &[u8], start: usize) -> Result<Read, BrokenForm>
     requires { start ≤ length file.now }
     ensures { ReadsBody Key.Rule file.now start result }
 {
@@ -38,7 +39,9 @@ pub fn read_rule(file: &[u8], start: usize) -> Result<Read, usize>
     let text = name_line(name);
     let count = agreement(file, start, text);
     if count < text.len() {
-        return Err(start + count);
+        return Err(BrokenForm {
+            place: start + count,
+        });
     }
     Ok(Read {
         item: Item::Rule { name },

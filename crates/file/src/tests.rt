@@ -8,7 +8,7 @@ use std::test::Fail;
 fn place(line: &[u8], last: Option<Key>) -> usize {
     match read_line(line, 0, last) {
         Ok(_) => 0,
-        Err(place) => place,
+        Err(broken) => broken.place,
     }
 }
 

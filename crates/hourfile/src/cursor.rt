@@ -43,7 +43,7 @@ impl Cursor {
     {
         match read_line(file, self.start, self.last) {
             Ok(read) => Ok(read),
-            Err(place) => Err(self.fault(Fault::IllFormed(place))),
+            Err(broken) => Err(self.fault(Fault::IllFormed(broken.place))),
         }
     }
 

@@ -6,12 +6,12 @@ use Rattle.file.proofs.offer.read_block.Goals as goal
 
 pub returns-in_err-size : goal.returns-in_err-size
 returns-in_err-size c =
-    err_passed (λ read. ReadBlock c.args.end c.args.file.now c.args.start read) (λ place. BreaksAt (BlockField c.args.end) c.args.file.now c.args.start place) _ _ c.from_residual.ensures.1
+    err_passed (λ read. ReadBlock c.args.end c.args.file.now c.args.start read) (λ broken. BreaksAt (BlockField c.args.end) c.args.file.now c.args.start broken.place) _ _ c.from_residual.ensures.1
     (size_breaks _ _ _ _ c.in_err-size.ensures)
 
 pub returns-in_err-price : goal.returns-in_err-price
 returns-in_err-price c =
-    err_passed (λ read. ReadBlock c.args.end c.args.file.now c.args.start read) (λ place. BreaksAt (BlockField c.args.end) c.args.file.now c.args.start place) _ _ c.from_residual-in_err-price.ensures.1
+    err_passed (λ read. ReadBlock c.args.end c.args.file.now c.args.start read) (λ broken. BreaksAt (BlockField c.args.end) c.args.file.now c.args.start broken.place) _ _ c.from_residual-in_err-price.ensures.1
     (price_breaks _ _ _ _ c.in_ok-size.size c.in_ok-size.ensures c.in_err-price.ensures)
 
 pub returns : goal.returns

@@ -8,7 +8,7 @@ use Rattle.file.proofs.offer.read_blocks.Goals as goal
 
 pub returns-in_err-read : goal.returns-in_err-read
 returns-in_err-read c =
-    err_passed (λ read. ReadBlocks c.args.file.now c.args.start read) (λ place. BreaksAt (BlockRow 7) c.args.file.now c.args.start place) _ _ c.from_residual.ensures.1
+    err_passed (λ read. ReadBlocks c.args.file.now c.args.start read) (λ broken. BreaksAt (BlockRow 7) c.args.file.now c.args.start broken.place) _ _ c.from_residual.ensures.1
     (block_row _ _ _ (reading_breaks _ _ _ _ _ c.loop-read.invariant c.block_end.result _ c.block_end.ensures c.in_err-read.ensures))
 
 pub returns-then-read-eq10 : goal.returns-then-read-eq10

@@ -1,10 +1,10 @@
 -- How forms are put together: the first part breaks, or what follows the first part breaks. Assumes nothing.
-use Rattle.std.proofs.Common.{◌≡◌, ℕ, ◌+◌, ◌-◌, ◌<◌, ◌≤◌, ◌⊎◌, List, [], ◌∷◌, ◌++◌, length, get_or, take, drop, IsErrAnd, Result, sym, refl, ap, ◌∙◌, subst, inl, inr, ⊎_elim, arith, take-add, MatchResult}
+use Rattle.std.proofs.Common.{◌≡◌, ℕ, ◌+◌, ◌-◌, ◌<◌, ◌≤◌, ◌⊎◌, List, [], ◌∷◌, ◌++◌, length, get_or, take, drop, IsErrAnd, Result, sym, refl, ap, ◌∙◌, subst, inl, inr, ⊎_elim, arith, take-add, MatchResult, MatchOption, Option, Some, None}
 use Rattle.std.specs.List.{between}
 use Rattle.std.proofs.lemmas.List.{append_assoc, append-nil, drop-drop, take-append-drop, take_at, length-drop, length-append}
 use Rattle.std.proofs.lemmas.List.Edits.{between_none, between_more}
 use Rattle.std.proofs.lemmas.Result.{err_from_is_err_and}
-use Rattle.file.specs.Place.{Stands, Breaks, BreaksAt}
+use Rattle.file.specs.Place.{Stands, Breaks, BreaksAt, ByteAt}
 
 -- of two fronts of one list, one is the front of the other
 pub overlap : (xs ys u v : List ℕ) → xs ++ u ≡ ys ++ v →
@@ -146,3 +146,8 @@ stands_from_drop file start text more within e =
       within = omega arith;
       same = ap (λ (n : ℕ). take n (drop start file)) k ∙ ap (λ (t : List ℕ). take (length text) t) e ∙ take_at text more (length text) refl;
     }
+
+-- the byte that stands at a position is what is read of it
+pub byte_read : (file : List ℕ) (at byte : ℕ) (r : Option ℕ) → MatchOption r (at ≡ length file) (λ other. ByteAt file at other) → ByteAt file at byte → r ≡ Some byte
+byte_read file at byte None e here = absurd (omega (arith, here.inside))
+byte_read file at byte (Some other) b here = ap Some (sym b.same ∙ here.same)

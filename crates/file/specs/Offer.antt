@@ -1,10 +1,10 @@
 -- The blocks of an offer. Assumes nothing.
-use Rattle.std.specs.Prelude.{◌≡◌, ℕ, ◌≤◌, true, cond, List, [], ◌∷◌, ◌++◌, map, length, take, nat_lt}
+use Rattle.std.specs.Prelude.{◌≡◌, ℕ, ◌≤◌, true, cond, List, [], ◌∷◌, ◌++◌, map, length, take, ◌==◌, nat_lt}
 use Rattle.prices.specs.declared.block.Block.{Block}
 use Rattle.file.specs.Field.{allowed}
 use Rattle.file.specs.Item.{block_text, BlockWords, SoundBlocks}
 use Rattle.file.specs.Number.{Word}
-use Rattle.file.specs.Place.{Stands}
+use Rattle.file.specs.Place.{Stands, StandsBefore}
 use Rattle.file.specs.Row.{row}
 use Rattle.file.specs.declared.field.End.{End}
 use Rattle.file.specs.declared.field.End.TheVariants.{CommaOrLine, Line}
@@ -24,8 +24,10 @@ pub record BlockField (end : End) (text : List ℕ) : Type 0 where
 pub record ReadBlock (end : End) (file : List ℕ) (start : ℕ) (read : BlockRead) : Type 0 where
   pub size : Word read.block.size
   pub price : Word read.block.price
-  pub ends : allowed end read.end ≡ true
-  pub stands : Stands file start read.next (block_text read.block ++ read.end ∷ [])
+  pub byte : ℕ
+  pub ends : allowed end byte ≡ true
+  pub line : read.ends_line ≡ (byte == 10)
+  pub stands : StandsBefore file start read.next (block_text read.block ++ byte ∷ [])
 
 -- the seventh block is the last
 abbrev pub block_end : ℕ → End

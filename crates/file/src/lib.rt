@@ -11,6 +11,7 @@ mod line;
 mod literal;
 mod number;
 mod offer;
+mod position;
 mod print;
 mod rule;
 mod size;

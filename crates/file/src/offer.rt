@@ -1,21 +1,20 @@
-ghost use Rattle.std.specs.Prelude.{◌≡◌, ◌≤◌, length, MatchResult};
-ghost use Rattle.file.specs.Body.{ReadsBody};
-ghost use Rattle.file.specs.Offer.{BlockField, ReadBlock, block_end, BlockRow, ReadBlocks};
-ghost use Rattle.file.specs.Place.{BreaksAt};
+ghost use Rattle.std.specs.Prelude.{◌≡◌, MatchResult};
+ghost use Rattle.file.specs.Offer.{BlockField, block_end, BlockRow};
 
 use crate::body::Read;
 use crate::broken::BrokenForm;
-use crate::field::{End, read_field};
+use crate::field::End;
 use crate::item::Item;
 use crate::key::Key;
+use crate::position::Position;
 use prices::Block;
 
-// A block of an offer, the byte that ends it, and the place behind that byte.
+// A block of an offer, whether a line feed ends it, and the position behind the byte that ends it.
 #[derive(Clone, Copy)]
-struct BlockRead {
+struct BlockRead<'a> {
     block: Block,
-    end: u8,
-    next: usize,
+    ends_line: bool,
+    next: Position<'a>,
 }
 
 // The blocks of an offer, the first `count` held, and the place behind their line feed.
@@ -29,23 +28,6 @@ struct BlocksRead {
 // What stands in the array behind the blocks.
 const NO_BLOCK: Block = Block { size: 0, price: 0 };
 
-// Reads a block and the byte that ends it, or gives the place that breaks this form.
-fn read_block(file: &[u8], start: usize, end: End) -> Result<BlockRead, BrokenForm>
-    requires { start ≤ length file.now }
-    ensures { MatchResult result (λ read. ReadBlock end file.now start read) (λ broken. BreaksAt (BlockField end) file.now start broken.place) }
-{
-    let size = read_field(file, start, End::Colon)?;
-    let price = read_field(file, size.next, end)?;
-    Ok(BlockRead {
-        block: Block {
-            size: size.value,
-            price: price.value,
-        },
-        end: price.end,
-        next: price.next,
-    })
-}
-
 // What may end a block behind so many others: the seventh block is the last.
 fn block_end(before: usize) -> End
     ensures { result ≡ block_end before }
@@ -57,39 +39,63 @@ fn block_end(before: usize) -> End
     }
 }
 
-// Reads 1 to 7 blocks up to the line feed, or gives the place that breaks this form.
-fn read_blocks(file: &[u8], start: usize) -> Result<BlocksRead, BrokenForm>
-    requires { start ≤ length file.now }
-    ensures { MatchResult result (λ read. ReadBlocks file.now start read) (λ broken. BreaksAt (BlockRow 7) file.now start broken.place) }
-{
-    let mut held = [NO_BLOCK; 7];
-    let mut count = 0;
-    let mut next = start;
-    loop {
-        let read = read_block(file, next, block_end(count))?;
-        held[count] = read.block;
-        count += 1;
-        next = read.next;
-        if read.end == b'\n' {
-            return Ok(BlocksRead { held, count, next });
+impl<'a> Position<'a> {
+    ghost use Rattle.file.specs.Body.{ReadsBody};
+    ghost use Rattle.file.specs.Offer.{ReadBlock, ReadBlocks};
+    ghost use Rattle.file.specs.Place.{BreaksAt};
+
+    // Reads a block and the byte that ends it, or gives the place that breaks this form.
+    fn block(self, end: End) -> Result<BlockRead<'a>, BrokenForm>
+        ensures { MatchResult result (λ read. ReadBlock end self.entry.file.now self.entry.at read) (λ broken. BreaksAt (BlockField end) self.entry.file.now self.entry.at broken.place) }
+    {
+        let size = self.field(End::Colon)?;
+        let price = size.next.field(end)?;
+        Ok(BlockRead {
+            block: Block {
+                size: size.value,
+                price: price.value,
+            },
+            ends_line: price.ends_line,
+            next: price.next,
+        })
+    }
+
+    // Reads 1 to 7 blocks up to the line feed, or gives the place that breaks this form.
+    fn blocks(self) -> Result<BlocksRead, BrokenForm>
+        ensures { MatchResult result (λ read. ReadBlocks self.entry.file.now self.entry.at read) (λ broken. BreaksAt (BlockRow 7) self.entry.file.now self.entry.at broken.place) }
+    {
+        let mut held = [NO_BLOCK; 7];
+        let mut count = 0;
+        let mut next = self;
+        loop {
+            let read = next.block(block_end(count))?;
+            held[count] = read.block;
+            count += 1;
+            next = read.next;
+            if read.ends_line {
+                return Ok(BlocksRead {
+                    held,
+                    count,
+                    next: next.at,
+                });
+            }
         }
     }
-}
 
-// Reads the asset and the blocks of an offer, or gives the place that breaks this form.
-pub fn read_offer(file: &[u8], start: usize) -> Result<Read, BrokenForm>
-    requires { start ≤ length file.now }
-    ensures { ReadsBody Key.Offer file.now start result }
-{
-    let asset = read_field(file, start, End::Comma)?;
-    let read = read_blocks(file, asset.next)?;
-    let blocks = read.held;
-    Ok(Read {
-        item: Item::Offer {
-            asset: asset.value,
-            blocks,
-            count: read.count,
-        },
-        next: read.next,
-    })
+    // Reads the asset and the blocks of an offer, or gives the place that breaks this form.
+    pub fn offer(self) -> Result<Read, BrokenForm>
+        ensures { ReadsBody Key.Offer self.entry.file.now self.entry.at result }
+    {
+        let asset = self.field(End::Comma)?;
+        let read = asset.next.blocks()?;
+        let blocks = read.held;
+        Ok(Read {
+            item: Item::Offer {
+                asset: asset.value,
+                blocks,
+                count: read.count,
+            },
+            next: read.next,
+        })
+    }
 }

@@ -1,8 +1,9 @@
 -- The fields of each key's lines, as rows. Assumes nothing.
-use Rattle.std.proofs.Common.{◌≡◌, ℕ, ◌-◌, ◌<◌, ◌≤◌, true, List, [], ◌∷◌, ◌++◌, map, length, get_or, take, replicate, IsErrAnd, decimal, Result, sym, refl, ap, ◌∙◌, subst, arith}
-use Rattle.std.proofs.lemmas.List.{take_at, length-append, length-take-le, length-replicate}
-use Rattle.prices.specs.Block.{no_block}
+use Rattle.std.proofs.Common.{◌≡◌, ℕ, ◌<◌, ◌≤◌, true, List, [], ◌∷◌, ◌++◌, map, length, get_or, IsErrAnd, decimal, Result, sym, refl, ap, ◌∙◌, subst, arith}
+use Rattle.prices.specs.Block.{block_list, listed}
 use Rattle.prices.specs.declared.block.Block.{Block}
+use Rattle.prices.specs.declared.block.BlockList.{BlockList}
+use Rattle.prices.proofs.Filling.{listed_block_list}
 use Rattle.file.specs.Number.{Word}
 use Rattle.file.specs.Numbers.{Words}
 use Rattle.file.specs.Place.{Stands, BreaksAt}
@@ -72,15 +73,22 @@ number_text n w = record { value = n; word = w; same = refl }
 then : {F : List ℕ → Type 0} {R : List (List ℕ) → Type 0} (f : List ℕ) (rest : List (List ℕ)) → F f → R rest → Cons F R (f ∷ rest)
 then f rest p q = record { field = f; rest = rest; first = p; others = q; same = refl }
 
+counted : (bs : List Block) → (block_list bs).count ≡ length bs
+unfolding block_list
+counted bs = refl
+
+-- a sound list holds as many blocks as it counts
+listed_long : (blocks : BlockList) → SoundBlocks blocks → length (listed blocks) ≡ blocks.count
+listed_long blocks s = sym (ap (λ (b : BlockList). b.count) s.padded ∙ counted (listed blocks))
+
 numbers : (values : List ℕ) → Words values → Numbers (length values) (map decimal values)
 numbers values words = record { values = values; many = refl; words = words; same = refl }
 
 item_fields : (item : Item) → Sound item → FieldsOf (key_of item) (fields item)
 item_fields (Hour label) s = numbers (label ∷ []) (s, tt)
 item_fields (Asset asset letter owner) s = then _ _ (number_text asset s.0) (then _ _ (record { letter = letter; capital = s.1; same = refl }) (then _ _ (number_text owner s.2) refl))
-item_fields (Offer asset blocks count) s =
-    let long : length (take count blocks) ≡ count = length-take-le count blocks (omega (arith, s.1.places, s.1.few)) in
-    then _ _ (number_text asset s.0) (record { blocks = take count blocks; some = omega (arith, s.1.some); few = omega (arith, s.1.few); words = s.1.words; same = refl })
+item_fields (Offer asset blocks) s =
+    then _ _ (number_text asset s.0) (record { blocks = listed blocks; some = omega (arith, listed_long blocks s.1, s.1.some); few = omega (arith, listed_long blocks s.1, s.1.few); words = s.1.words; same = refl })
 item_fields (Order asset minute level) s = numbers (asset ∷ minute ∷ level ∷ []) (s.0, (s.1, (s.2, tt)))
 item_fields (Shed first end) s = numbers (first ∷ end ∷ []) (s.0, (s.1, tt))
 item_fields (Meter asset kwh) s = numbers (asset ∷ kwh ∷ []) (s.0, (s.1, tt))
@@ -96,16 +104,11 @@ pub record Says (key : Key) (all : List (List ℕ)) : Type 0 where
 one : (all : List (List ℕ)) (f : List ℕ) (rest : List (List ℕ)) (g : List ℕ) (others : List (List ℕ)) → all ≡ f ∷ rest → f ≡ g → rest ≡ others → all ≡ g ∷ others
 one all f rest g others e p q = e ∙ ap (λ (x : List ℕ). x ∷ rest) p ∙ ap (λ (xs : List (List ℕ)). g ∷ xs) q
 
-pub padded_blocks : (bs : List Block) → 1 ≤ length bs → length bs ≤ 7 → BlockWords bs → SoundBlocks (bs ++ replicate (7 - length bs) no_block) (length bs)
-padded_blocks bs some few words =
-    let front : take (length bs) (bs ++ replicate (7 - length bs) no_block) ≡ bs = take_at bs (replicate (7 - length bs) no_block) (length bs) refl in
-    record {
-      places = length-append bs (replicate (7 - length bs) no_block) ∙ omega (arith, length-replicate (7 - length bs) no_block);
-      some = some;
-      few = few;
-      words = subst BlockWords (sym front) words;
-      padded = ap (λ (t : List Block). t ++ replicate (7 - length bs) no_block) (sym front);
-    }
+pub blocks_sound : (bs : List Block) → 1 ≤ length bs → length bs ≤ 7 → BlockWords bs → SoundBlocks (block_list bs)
+unfolding block_list
+blocks_sound bs some few words =
+    let held = listed_block_list bs few in
+    record { some = some; few = few; words = subst BlockWords (sym held) words; padded = ap block_list (sym held) }
 
 pub one_value : (vs : List ℕ) → length vs ≡ 1 → vs ≡ get_or vs 0 0 ∷ []
 one_value [] e = absurd (omega arith)
@@ -140,13 +143,11 @@ fields_item key.Asset all a =
     }
 fields_item key.Offer all a =
     let b = a.others in
-    let bs = b.blocks in
-    let front : take (length bs) (bs ++ replicate (7 - length bs) no_block) ≡ bs = take_at bs (replicate (7 - length bs) no_block) (length bs) refl in
     record {
-      item = Offer a.first.value (bs ++ replicate (7 - length bs) no_block) (length bs);
-      sound = (a.first.word, padded_blocks bs b.some b.few b.words);
+      item = Offer a.first.value (block_list b.blocks);
+      sound = (a.first.word, blocks_sound b.blocks b.some b.few b.words);
       keyed = refl;
-      same = one _ _ _ _ _ a.same a.first.same (b.same ∙ ap (λ (t : List Block). map block_text t) (sym front));
+      same = one _ _ _ _ _ a.same a.first.same (b.same ∙ ap (λ (t : List Block). map block_text t) (sym (listed_block_list b.blocks b.few)));
     }
 fields_item key.Order all a =
     let e = three_values a.values a.many in

@@ -1,4 +1,5 @@
-ghost use Rattle.std.specs.Prelude.{◌≡◌, MatchResult};
+ghost use Rattle.std.specs.Prelude.{◌≡◌, ◌≤◌, length, MatchResult};
+ghost use Rattle.prices.specs.Block.{block_list};
 ghost use Rattle.file.specs.Offer.{BlockField, block_end, BlockRow};
 
 use crate::body::Read;
@@ -7,7 +8,8 @@ use crate::field::End;
 use crate::item::Item;
 use crate::key::Key;
 use crate::position::Position;
-use prices::Block;
+use arrayvec::ArrayVec;
+use prices::{Block, BlockList};
 
 // A block of an offer, whether a line feed ends it, and the position behind the byte that ends it.
 #[derive(Clone, Copy)]
@@ -16,17 +18,6 @@ struct BlockRead<'a> {
     ends_line: bool,
     next: Position<'a>,
 }
-
-// The blocks of an offer, the first `count` held, and the place behind their line feed.
-#[derive(Clone, Copy)]
-struct BlocksRead {
-    held: [Block; 7],
-    count: usize,
-    next: usize,
-}
-
-// What stands in the array behind the blocks.
-const NO_BLOCK: Block = Block { size: 0, price: 0 };
 
 // What may end a block behind so many others: the seventh block is the last.
 fn block_end(before: usize) -> End
@@ -37,6 +28,15 @@ fn block_end(before: usize) -> End
     } else {
         End::Line
     }
+}
+
+// Between 1 and 7 blocks as a list.
+fn as_list(blocks: &[Block]) -> BlockList
+    requires some { 1 ≤ length blocks.now }
+    requires few { length blocks.now ≤ 7 }
+    ensures { result ≡ block_list blocks.now }
+{
+    BlockList::new(blocks).unwrap()
 }
 
 impl<'a> Position<'a> {
@@ -61,23 +61,17 @@ impl<'a> Position<'a> {
     }
 
     // Reads 1 to 7 blocks up to the line feed, or gives the place that breaks this form.
-    fn blocks(self) -> Result<BlocksRead, BrokenForm>
-        ensures { MatchResult result (λ read. ReadBlocks self.entry.file.now self.entry.at read) (λ broken. BreaksAt (BlockRow 7) self.entry.file.now self.entry.at broken.place) }
+    fn blocks(self) -> Result<(ArrayVec<Block, 7>, Position<'a>), BrokenForm>
+        ensures { MatchResult result (λ read. ReadBlocks self.entry.file.now self.entry.at read.0.items read.1) (λ broken. BreaksAt (BlockRow 7) self.entry.file.now self.entry.at broken.place) }
     {
-        let mut held = [NO_BLOCK; 7];
-        let mut count = 0;
+        let mut blocks = ArrayVec::new();
         let mut next = self;
         loop {
-            let read = next.block(block_end(count))?;
-            held[count] = read.block;
-            count += 1;
+            let read = next.block(block_end(blocks.len()))?;
+            blocks.push(read.block);
             next = read.next;
             if read.ends_line {
-                return Ok(BlocksRead {
-                    held,
-                    count,
-                    next: next.at,
-                });
+                return Ok((blocks, next));
             }
         }
     }
@@ -87,15 +81,13 @@ impl<'a> Position<'a> {
         ensures { ReadsBody Key.Offer self.entry.file.now self.entry.at result }
     {
         let asset = self.field(End::Comma)?;
-        let read = asset.next.blocks()?;
-        let blocks = read.held;
+        let (blocks, next) = asset.next.blocks()?;
         Ok(Read {
             item: Item::Offer {
                 asset: asset.value,
-                blocks,
-                count: read.count,
+                blocks: as_list(blocks.as_slice()),
             },
-            next: read.next,
+            next: next.at,
         })
     }
 }

@@ -3,7 +3,7 @@ ghost use Rattle.prices.specs.Range.{higher};
 ghost use Rattle.prices.specs.Block.{price_with_power, marginal, Marginal, no_block, block_list, listed};
 
 // A block of an offer or a bid: a size in MW at a price in cents per MWh.
-#[derive(Clone, Copy, PartialEq, Eq, Debug)]
+#[derive(Clone, Copy, PartialEq, Eq, Debug, Default)]
 pub struct Block {
     pub size: u32,
     pub price: u32,

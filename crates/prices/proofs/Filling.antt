@@ -1,7 +1,8 @@
 -- What holds of a level that fills a block list. Assumes nothing.
-use Rattle.std.proofs.Common.{◌≡◌, ℕ, ◌<◌, ◌≤◌, min, ltb, List, map, length, get_or, take, Some, None, Option, sym, refl, ap, ◌∙◌, subst, inl, inr, arith}
+use Rattle.std.proofs.Common.{◌≡◌, ℕ, ◌+◌, ◌-◌, ◌<◌, ◌≤◌, min, ltb, List, ◌++◌, map, length, length-append, get_or, take, drop, replicate, Some, None, Option, sym, refl, ap, ◌∙◌, subst, inl, inr, arith}
 use Rattle.std.specs.List.{range_with_len}
 use Rattle.std.proofs.lemmas.Bool.{cases_lt, lt-ltb, cond-true, cond-false, le-ltb}
+use Rattle.std.proofs.lemmas.List.{drop-replicate, length-replicate, get_or_append_left, get_or-append_right, get_or-drop, get_or-replicate, get_or_past}
 use Rattle.std.proofs.lemmas.List.FromFn.{take-map-range_with_len, fill_by_all}
 use Rattle.prices.specs.declared.block.Block.{Block}
 use Rattle.prices.specs.Block.{power, price_at, price_with_power, dispatched_price, marginal, Marginal, no_block, block_list, listed}
@@ -47,3 +48,18 @@ listed_block_list blocks short =
     ap (λ n. take n (map (λ k. get_or blocks k no_block) (range_with_len 0 7))) few
     ∙ take-map-range_with_len (λ k. get_or blocks k no_block) 0 7 (length blocks) short
     ∙ sym (fill_by_all (λ k. get_or blocks k no_block) blocks (length blocks) no_block refl (λ k lt. refl))
+
+-- the blocks of a list with empty places behind them, up to 7
+pub padded : (blocks : List Block) → length blocks ≤ 7 → blocks ++ drop (length blocks) (replicate 7 no_block) ≡ map (λ k. get_or blocks k no_block) (range_with_len 0 7)
+padded blocks few =
+    let behind = drop-replicate (length blocks) 7 no_block in
+    let long : length (blocks ++ drop (length blocks) (replicate 7 no_block)) ≡ 7 = rw behind (rw (length-append, length-replicate) (omega arith)) in
+    fill_by_all (λ k. get_or blocks k no_block) (blocks ++ drop (length blocks) (replicate 7 no_block)) 7 no_block long (λ k lt.
+    elim (cases_lt k (length blocks)) [
+      | inl within ↦ get_or_append_left blocks _ no_block k within
+      | inr past ↦
+          get_or-append_right blocks _ (length blocks) k no_block refl past
+          ∙ get_or-drop (length blocks) (replicate 7 no_block) (k - length blocks) no_block
+          ∙ get_or-replicate 7 (length blocks + (k - length blocks)) no_block no_block (omega arith)
+          ∙ sym (get_or_past blocks k no_block past)
+    ])

@@ -1,3 +1,4 @@
 pub mod Ranges
 pub mod Filling
 pub mod Pricing
+pub mod Arrays

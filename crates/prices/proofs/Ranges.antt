@@ -1,6 +1,10 @@
 -- What holds of sums, maxima and first places over the numbers below a bound. Assumes nothing.
-use Rattle.std.proofs.Common.{◌≡◌, ℕ, zero, suc, ◌+◌, ◌-◌, ◌<◌, ◌≤◌, max, Bool, true, false, cond, Some, None, Option, sym, refl, ap, ◌∙◌, subst, inl, inr, suc-add, zero-add, sub-add_cancel, add-one, arith}
-use Rattle.std.proofs.lemmas.Bool.{cases_eq, cases_lt, cond-true, cond-false}
+use Rattle.std.proofs.Common.{◌≡◌, ℕ, zero, suc, ◌+◌, ◌-◌, ◌<◌, ◌≤◌, max, Bool, true, false, cond, ltb, List, [], ◌∷◌, length, get_or, take, Some, None, Option, sym, refl, ap, ◌∙◌, subst, inl, inr, suc-add, zero-add, sub-add_cancel, add-one, arith}
+use native.Mathlib.Numerals.{suc-eq-add-one}
+use Rattle.std.specs.List.{sum_by, position, position_or_len, fold, reduce, filter_map, cons_option}
+use Rattle.std.proofs.lemmas.Bool.{cases_eq, cases_lt, cond-true, cond-false, lt-ltb, le-ltb}
+use Rattle.std.proofs.lemmas.List.{take_all}
+use Rattle.std.proofs.lemmas.List.Sums.{sum_by_more, position_or_len_is}
 use Rattle.prices.specs.Range.{total, higher, highest, earlier, first_place}
 
 -- what holds below n and at n holds below the next number
@@ -58,15 +62,15 @@ unfolding highest
 highest_greatest f zero = λ k lt. absurd (omega arith)
 highest_greatest f (suc n) = greatest_next f n (highest f n) (f n) refl (highest_greatest f n)
 
--- the first place that passes, or that none passes
+-- the first place that passes, before which none does, or that none passes
 abbrev pub Least : (ℕ → Bool) → ℕ → Option ℕ → Type 0
 Least p n None = (k : ℕ) → k < n → p k ≡ false
-Least p n (Some m) = (m < n) × (p m ≡ true)
+Least p n (Some m) = (m < n) × (p m ≡ true) × ((k : ℕ) → k < m → p k ≡ false)
 
 least_next : (p : ℕ → Bool) (n : ℕ) (h : Option ℕ) (b : Bool) → p n ≡ b → Least p n h → Least p (suc n) (earlier h (cond b (Some n) None))
-least_next p n None true e l = (omega arith, e)
+least_next p n None true e l = (omega arith, e, l)
 least_next p n None false e l = below_next (λ k. p k ≡ false) n l e
-least_next p n (Some m) b e l = (omega (arith, l.0), l.1)
+least_next p n (Some m) b e l = (omega (arith, l.0), l.1, l.2)
 
 pub first_place_least : (p : ℕ → Bool) (n : ℕ) → Least p n (first_place p n)
 unfolding first_place
@@ -100,3 +104,59 @@ total_same f g (suc n) same =
     let before = total_same f g n (λ k lt. same k (omega arith)) in
     let here = same n (omega arith) in
     cc
+
+-- a sum over the places of a list is the sum over its elements
+total_of_front : {A : Type 0} (f : A → ℕ) (xs : List A) (d : A) (n : ℕ) → n ≤ length xs → total (λ k. f (get_or xs k d)) n ≡ sum_by f (take n xs)
+unfolding total
+total_of_front f xs d zero le = refl
+total_of_front f xs d (suc n) le =
+    ap (λ t. t + f (get_or xs n d)) (total_of_front f xs d n (omega arith))
+    ∙ sym (sum_by_more f xs n d (omega arith))
+    ∙ ap (λ m. sum_by f (take m xs)) (sym (suc-eq-add-one n))
+
+pub total_of_list : {A : Type 0} (f : A → ℕ) (xs : List A) (d : A) → total (λ k. f (get_or xs k d)) (length xs) ≡ sum_by f xs
+total_of_list f xs d = total_of_front f xs d (length xs) (omega arith) ∙ ap (sum_by f) (take_all (length xs) xs (omega arith))
+
+-- the first place of a list that passes is the position of its first element that does
+position_of_least : {A : Type 0} (p : A → Bool) (xs : List A) (d : A) (r : Option ℕ) → Least (λ k. p (get_or xs k d)) (length xs) r → r ≡ position p xs
+position_of_least p xs d None l =
+    let past : position_or_len p xs ≡ length xs = position_or_len_is p xs (length xs) d (omega arith) l (λ lt. absurd (omega arith)) in
+    sym (cond-false (ltb (position_or_len p xs) (length xs)) (Some (position_or_len p xs)) None (le-ltb _ _ (omega arith)))
+position_of_least p xs d (Some m) l =
+    let at : position_or_len p xs ≡ m = position_or_len_is p xs m d (omega (arith, l.0)) l.2 (λ _. l.1) in
+    sym (ap (λ i. cond (ltb i (length xs)) (Some i) None) at ∙ cond-true (ltb m (length xs)) (Some m) None (lt-ltb m (length xs) l.0))
+
+pub first_place_of_list : {A : Type 0} (p : A → Bool) (xs : List A) (d : A) → first_place (λ k. p (get_or xs k d)) (length xs) ≡ position p xs
+first_place_of_list p xs d = position_of_least p xs d _ (first_place_least (λ k. p (get_or xs k d)) (length xs))
+
+-- the highest figure over the places of a list is the greatest of those that its elements give
+higher_none : (x : Option ℕ) → higher x None ≡ x
+higher_none None = refl
+higher_none (Some x) = refl
+
+higher_assoc : (x y z : Option ℕ) → higher (higher x y) z ≡ higher x (higher y z)
+higher_assoc None y z = refl
+higher_assoc (Some x) None z = refl
+higher_assoc (Some x) (Some y) None = refl
+higher_assoc (Some x) (Some y) (Some z) = ap Some (omega arith)
+
+highest_front : (f : ℕ → Option ℕ) (n : ℕ) → highest f (suc n) ≡ higher (f 0) (highest (λ k. f (suc k)) n)
+unfolding highest
+highest_front f zero = sym (higher_none (f 0))
+highest_front f (suc n) = ap (λ h. higher h (f (suc n))) (highest_front f n) ∙ higher_assoc (f 0) (highest (λ k. f (suc k)) n) (f (suc n))
+
+max_over : (x y : ℕ) (ys : List ℕ) → max x (fold max y ys) ≡ fold max (max x y) ys
+max_over x y [] = refl
+max_over x y (z ∷ zs) = max_over x (max y z) zs ∙ ap (λ m. fold max m zs) (omega arith)
+
+higher_reduce : (x : Option ℕ) (ys : List ℕ) → higher x (reduce max ys) ≡ reduce max (cons_option x ys)
+higher_reduce None ys = refl
+higher_reduce (Some x) [] = refl
+higher_reduce (Some x) (y ∷ ys) = ap Some (max_over x y ys)
+
+pub highest_of_list : {A : Type 0} (f : A → Option ℕ) (xs : List A) (d : A) → highest (λ k. f (get_or xs k d)) (length xs) ≡ reduce max (filter_map f xs)
+highest_of_list f [] d = highest_none (λ k. f d)
+highest_of_list f (x ∷ xs) d =
+    highest_front (λ k. f (get_or (x ∷ xs) k d)) (length xs)
+    ∙ ap (higher (f x)) (highest_of_list f xs d)
+    ∙ higher_reduce (f x) (filter_map f xs)

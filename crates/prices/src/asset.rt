@@ -28,11 +28,7 @@ impl Asset {
     pub fn level(&self, minute: u32) -> u32
         ensures { result ≡ level_in self.now minute }
     {
-        if minute < 60 {
-            self.levels[minute as usize]
-        } else {
-            0
-        }
+        self.levels.get(minute as usize).copied().unwrap_or(0)
     }
 
     // Price of the highest priced block with power in a minute; none at level 0.

@@ -1,6 +1,5 @@
-ghost use Rattle.std.specs.Prelude.{◌≡◌, min, ◌&&◌, leb, length, IfSome, if◌then◌else◌, Some, None, nat_le, slice_index_or};
-ghost use Rattle.prices.specs.Range.{higher};
-ghost use Rattle.prices.specs.Block.{price_with_power, marginal, Marginal, no_block, block_list, listed};
+ghost use Rattle.std.specs.Prelude.{◌≡◌, ◌*◌, ◌≤◌, min, ◌&&◌, leb, length, IfSome, if◌then◌else◌, Some, None, nat_le};
+ghost use Rattle.prices.specs.Block.{price_with_power, marginal, Marginal, ahead, block_list, listed};
 
 // A block of an offer or a bid: a size in MW at a price in cents per MWh.
 #[derive(Clone, Copy, PartialEq, Eq, Debug, Default)]
@@ -21,22 +20,7 @@ impl Block {
     pub fn dispatched_price(self, left: u32) -> Option<u32>
         ensures { result ≡ price_with_power (min self.size left) self.price }
     {
-        if 0 < self.power(left) {
-            Some(self.price)
-        } else {
-            None
-        }
-    }
-}
-
-// The higher of two prices, either of which may be missing.
-pub fn higher_price(a: Option<u32>, b: Option<u32>) -> Option<u32>
-    ensures { result ≡ higher a b }
-{
-    match (a, b) {
-        (None, other) => other,
-        (Some(x), None) => Some(x),
-        (Some(x), Some(y)) => Some(x.max(y)),
+        (0 < self.power(left)).then_some(self.price)
     }
 }
 
@@ -48,26 +32,14 @@ pub fn marginal_price(blocks: &[Block], level: u32) -> Option<u32>
     let mut left = level;
     let mut top = None;
     for block in blocks {
-        top = higher_price(top, block.dispatched_price(left));
+        top = top.max(block.dispatched_price(left));
         left -= block.power(left);
     }
     top
 }
 
-// What stands past the end of a block list.
-const NO_BLOCK: Block = Block { size: 0, price: 0 };
-
-// The block at a place, or one of no power past the end.
-fn block_at(blocks: &[Block], place: usize) -> Block
-    ensures { result ≡ slice_index_or blocks.now place no_block }
-{
-    match blocks.get(place) {
-        Some(block) => *block,
-        None => NO_BLOCK,
-    }
-}
-
 // Between 1 and 7 blocks, in the order in which a level fills them.
+// The array and its count stand side by side because the list is Copy, which the kit's ArrayVec is not.
 #[derive(Clone, Copy)]
 pub struct BlockList {
     blocks: [Block; 7],
@@ -83,10 +55,8 @@ impl BlockList {
         if blocks.is_empty() || blocks.len() > 7 {
             return None;
         }
-        let mut held = [NO_BLOCK; 7];
-        for place in 0..7 {
-            held[place] = block_at(blocks, place);
-        }
+        let mut held = [Block::default(); 7];
+        held[..blocks.len()].copy_from_slice(blocks);
         Some(BlockList {
             blocks: held,
             count: blocks.len(),
@@ -97,5 +67,17 @@ impl BlockList {
         ensures { result.now ≡ listed self.now }
     {
         &self.blocks[0..self.count.min(7)]
+    }
+
+    // Power in all blocks together, in MW; the loop shows the bound, which the contract of a chain's sum does not.
+    pub fn total_size(&self) -> u64
+        ensures value { result ≡ ahead (listed self.now) (length (listed self.now)) }
+        ensures bound { result ≤ 7 * 4294967295 }
+    {
+        let mut sum: u64 = 0;
+        for block in self.as_slice() {
+            sum += u64::from(block.size);
+        }
+        sum
     }
 }

@@ -10,7 +10,7 @@ mod schedule;
 pub use asset::Asset;
 pub use average::nearest_sixtieth;
 pub use block::{Block, BlockList, marginal_price};
-pub use kind::Kind;
+pub use kind::{Kind, UnknownLetter};
 pub use schedule::Schedule;
 
 #[cfg(test)]

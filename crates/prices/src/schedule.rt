@@ -1,12 +1,12 @@
 ghost use Rattle.std.specs.Prelude.{◌≡◌, ℕ, ◌+◌, ◌*◌, ◌<◌, ◌≤◌, length, ℤ, IfSome, Some, None, slice_index, slice_index_or};
 ghost use Rattle.prices.specs.Range.{first_place, count};
 ghost use Rattle.prices.specs.Average.{Nearest};
-ghost use Rattle.prices.specs.Schedule.{marked_in, proposed, top_price, system_price, SystemPrice, price_sum, pool_price};
+ghost use Rattle.prices.specs.Schedule.{marked_in, proposed_by, proposed, top_price, system_price, SystemPrice, price_sum, pool_price};
 ghost use Rattle.prices.specs.Setter.{setter_of, Sets, minutes_set, is_number};
 
 use crate::asset::Asset;
 use crate::average::nearest_sixtieth;
-use crate::block::higher_price;
+use std::array;
 
 // System price of a marked minute, in cents per MWh.
 const CAP: u32 = 100000;
@@ -23,33 +23,17 @@ impl Schedule {
     pub fn is_marked(&self, minute: u32) -> bool
         ensures { result ≡ marked_in self.now minute }
     {
-        if minute < 60 {
-            self.marked[minute as usize]
-        } else {
-            false
-        }
-    }
-
-    // The price that the asset at a place proposes for the system in a minute.
-    fn proposed_price(&self, place: usize, minute: u32) -> Option<u32>
-        requires { place < 64 }
-        ensures { result ≡ proposed self.now minute place }
-    {
-        match &self.assets[place] {
-            Some(asset) => asset.generator_price(minute),
-            None => None,
-        }
+        self.marked.get(minute as usize).copied().unwrap_or(false)
     }
 
     // Highest marginal price over the generators, none if none is dispatched.
     fn top_price(&self, minute: u32) -> Option<u32>
         ensures { result ≡ top_price self.now minute }
     {
-        let mut top = None;
-        for place in 0..64 {
-            top = higher_price(top, self.proposed_price(place, minute));
-        }
-        top
+        self.assets
+            .iter()
+            .filter_map(|asset| proposed_price(asset, minute))
+            .max()
     }
 
     // System marginal price of a minute.
@@ -63,7 +47,7 @@ impl Schedule {
         self.top_price(minute).unwrap_or(0)
     }
 
-    // Sum of the 60 system prices.
+    // Sum of the 60 system prices; the loop shows the bound, which the contract of a chain's sum does not.
     fn price_sum(&self) -> u64
         ensures value { result ≡ price_sum self.now }
         ensures bound { result ≤ 60 * 4294967295 }
@@ -93,10 +77,8 @@ impl Schedule {
         if self.is_marked(minute) {
             return None;
         }
-        match self.first_proposing(minute, self.system_price(minute)) {
-            Some(place) => Some(place as u32 + 1),
-            None => None,
-        }
+        self.first_proposing(minute, self.system_price(minute))
+            .map(|place| place as u32 + 1)
     }
 
     // Place of the first asset that proposes a price for the system in a minute.
@@ -104,23 +86,16 @@ impl Schedule {
         ensures value { result ≡ first_place (λ place. is_number (proposed self.now minute place) price) 64 }
         ensures within { IfSome result (λ place. place < 64) }
     {
-        for place in 0..64 {
-            if is_number(self.proposed_price(place, minute), price) {
-                return Some(place);
-            }
-        }
-        None
+        self.assets
+            .iter()
+            .position(|asset| proposed_price(asset, minute) == Some(price))
     }
 
     // The setter of each minute.
     fn setters(&self) -> [Option<u32>; 60]
         ensures { (minute : ℕ) → minute < 60 → slice_index_or result minute None ≡ setter_of self.now minute }
     {
-        let mut names = [None; 60];
-        for minute in 0..60 {
-            names[minute] = self.setter(minute as u32);
-        }
-        names
+        array::from_fn(|minute| self.setter(minute as u32))
     }
 
     // For each asset, the minutes for which it is named as the setter.
@@ -128,33 +103,22 @@ impl Schedule {
         ensures { (place : ℕ) → place < 64 → slice_index result place ≡ minutes_set self.now (place + 1) }
     {
         let names = self.setters();
-        let mut counts = [0; 64];
-        for place in 0..64 {
-            counts[place] = mentions(&names, place as u32 + 1);
-        }
-        counts
+        array::from_fn(|place| mentions(&names, place as u32 + 1))
     }
 }
 
-// Whether an optional number is there and is the one given.
-fn is_number(found: Option<u32>, wanted: u32) -> bool
-    ensures { result ≡ is_number found wanted }
+// The price that an asset proposes for the system in a minute, if it is enrolled.
+fn proposed_price(asset: &Option<Asset>, minute: u32) -> Option<u32>
+    ensures { result ≡ proposed_by asset.now minute }
 {
-    match found {
-        Some(number) => number == wanted,
-        None => false,
-    }
+    asset
+        .as_ref()
+        .and_then(|asset| asset.generator_price(minute))
 }
 
 // How often a number stands in a list of names.
 fn mentions(names: &[Option<u32>; 60], number: u32) -> u32
     ensures { result ≡ count (λ k. is_number (slice_index_or names.now k None) number) 60 }
 {
-    let mut found = 0;
-    for place in 0..60 {
-        if is_number(names[place], number) {
-            found += 1;
-        }
-    }
-    found
+    names.iter().filter(|name| **name == Some(number)).count() as u32
 }

@@ -3,9 +3,7 @@ use crate::*;
 // An asset of a kind with an offer, at one level before minute 30 and another from then on.
 fn asset(kind: Kind, blocks: &[Block], early: u32, late: u32) -> Option<Asset> {
     let mut levels = [early; 60];
-    for minute in 30..60 {
-        levels[minute] = late;
-    }
+    levels[30..].fill(late);
     Some(Asset {
         kind,
         offer: BlockList::new(blocks),
@@ -73,4 +71,16 @@ fn a_level_fills_blocks_in_order(rt: HostRuntime) {
     assert!(rt; BlockList::new(&[]).is_none());
     assert!(rt; BlockList::new(&[block(1, 1); 8]).is_none());
     assert!(rt; BlockList::new(&[block(1, 1); 7]).is_some());
+}
+
+#[test]
+fn letters_stand_for_kinds(rt: HostRuntime) {
+    assert_eq!(rt; Kind::try_from('L'), Ok(Kind::Load));
+    assert_eq!(rt; Kind::try_from('l'), Err(UnknownLetter('l')));
+}
+
+#[test]
+fn sizes_add_up(rt: HostRuntime) {
+    let list = BlockList::new(&[block(4294967295, 1), block(5, 2)]);
+    assert_eq!(rt; list.map(|list| list.total_size()), Some(4294967300));
 }

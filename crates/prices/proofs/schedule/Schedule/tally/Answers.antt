@@ -1,16 +1,11 @@
-use Rattle.std.proofs.Common.{◌≡◌, ◌+◌, ◌<◌, cond, length, get_or, set, sym, ap, ◌∙◌, subst, rules}
-use Rattle.std.proofs.lemmas.List.{length-set}
-use Rattle.std.proofs.lemmas.List.Edits.{fill_by_more}
-use Rattle.prices.specs.Setter.{minutes_set, is_number}
+use Rattle.std.proofs.Common.{◌+◌, cond, get_or, None, ap, ◌∙◌, rules}
+use Rattle.prices.specs.Range.{count}
+use Rattle.prices.specs.Setter.{is_number}
 use Rattle.prices.proofs.Ranges.{total_same}
+use Rattle.prices.proofs.Arrays.{made_gives}
 use Rattle.prices.proofs.schedule.Schedule.tally.Goals as goal
 
-pub loop-place-preserved : goal.loop-place-preserved
-loop-place-preserved c =
-    let inside : c.loop-place.place < length c.loop-place.counts = search rules in
-    let counted : c.mentions.result ≡ minutes_set c.args.self.now (c.loop-place.place + 1) =
-    c.mentions.ensures ∙ total_same _ _ 60 (λ k lt. ap (λ x. cond (is_number x (c.loop-place.place + 1)) 1 0) (c.setters-names.ensures k lt)) in (
-      search (rules, length-set),
-      subst (λ v. (k : _) → k < c.loop-place.place + 1 → get_or (set c.loop-place.counts c.loop-place.place v) k 0 ≡ minutes_set c.args.self.now (k + 1)) (sym counted)
-          (fill_by_more (λ k. minutes_set c.args.self.now (k + 1)) c.loop-place.counts c.loop-place.place 0 inside c.loop-place.invariant.1),
-    )
+pub returns : goal.returns
+returns c = λ place lt.
+    made_gives _ _ (λ k. count (λ minute. is_number (get_or c.setters-names.result minute None) (k + 1)) 60) (λ i y q k. search rules) _ _ c.from_fn.ensures.items place lt 0
+    ∙ total_same _ _ 60 (λ k within. ap (λ name. cond (is_number name (place + 1)) 1 0) (c.setters-names.ensures k within))

@@ -1,7 +1,0 @@
-use Rattle.std.proofs.Common.{◌≡◌}
-use Rattle.prices.specs.Range.{highest}
-use Rattle.prices.specs.Schedule.{proposed}
-use Rattle.prices.proofs.schedule.Schedule.top_price.Given as goal
-
-abbrev pub invariant-loop-place : goal.invariant-loop-place
-invariant-loop-place l = l.top ≡ highest (proposed l.self l.minute) l.place

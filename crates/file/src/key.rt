@@ -3,8 +3,8 @@ ghost use Rattle.file.specs.Key.{follows, key_text, NoKey, FoundKey};
 
 use crate::position::Position;
 
-// What the lines of a file begin with.
-#[derive(Clone, Copy, PartialEq, Eq, Debug)]
+// What the lines of a file begin with, in the order of their lines.
+#[derive(Clone, Copy, PartialEq, Eq, PartialOrd, Ord, Debug)]
 pub enum Key {
     Hour,
     Asset,
@@ -52,7 +52,7 @@ impl Key {
         match last {
             None => self == Key::Hour,
             Some(Key::Rule) => false,
-            Some(last) => self != Key::Hour && last as u8 <= self as u8,
+            Some(last) => self != Key::Hour && last <= self,
         }
     }
 }
@@ -70,11 +70,6 @@ impl<'a> Position<'a> {
     pub fn key(self, last: Option<Key>) -> Option<Key>
         ensures { MatchOption result (NoKey self.entry.file.now self.entry.at last) (λ key. FoundKey self.entry.file.now self.entry.at last key) }
     {
-        for key in KEYS {
-            if self.has_key(key, last) {
-                return Some(key);
-            }
-        }
-        None
+        KEYS.into_iter().find(|key| self.has_key(*key, last))
     }
 }

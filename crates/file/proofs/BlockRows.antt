@@ -1,24 +1,29 @@
 -- Blocks of an offer: where one breaks, and where a row of them breaks. Assumes nothing.
-use Rattle.std.proofs.Common.{◌≡◌, ℕ, suc, ◌+◌, ◌-◌, ◌<◌, ◌≤◌, true, ltb, ◌⊎◌, List, [], ◌∷◌, ◌++◌, map, length, take, set, replicate, decimal, sym, refl, ap, ◌∙◌, subst, inl, inr, ⊎_elim, arith}
+use Rattle.std.proofs.Common.{◌≡◌, ℕ, suc, ◌+◌, ◌-◌, ◌<◌, ◌≤◌, true, false, ltb, ◌⊎◌, List, [], ◌∷◌, ◌++◌, map, length, decimal, sym, refl, ap, ◌∙◌, subst, inl, inr, ⊎_elim, arith}
 use Rattle.std.proofs.lemmas.Bool.Decides.{nat_tests}
-use Rattle.std.proofs.lemmas.List.{append_assoc, length-map, length-set, length-take-le, take_more_set, set_at}
-use Rattle.std.proofs.lemmas.Bool.{cases_lt, cond-true, cond-false, lt-ltb, le-ltb}
-use Rattle.prices.specs.Block.{no_block}
+use Rattle.std.proofs.lemmas.List.{append_assoc, length-append, length-map}
+use Rattle.std.proofs.lemmas.Bool.{cases_lt, cond-true, cond-false, lt-ltb, le-ltb, eqb-true, eqb-false}
+use Rattle.prices.specs.Block.{block_list, listed}
 use Rattle.prices.specs.declared.block.Block.{Block}
+use Rattle.prices.proofs.Filling.{listed_block_list}
 use Rattle.file.specs.Number.{Word}
-use Rattle.file.specs.Place.{Stands, BreaksAt}
+use Rattle.file.specs.Place.{Stands, StandsBefore, BreaksAt}
 use Rattle.file.specs.Field.{allowed, NumberField, ReadNumber}
-use Rattle.file.specs.Item.{BlockWords, SoundBlocks, block_text}
-use Rattle.file.specs.Offer.{BlockField, BlockRow, ReadBlock, block_end}
+use Rattle.file.specs.Item.{BlockWords, block_text}
+use Rattle.file.specs.Offer.{BlockField, BlockRow, ReadBlock, ReadBlocks, block_end}
 use Rattle.file.specs.Row.{row, ending}
+use Rattle.file.specs.Body.{ReadBody}
 use Rattle.file.specs.declared.field.End.{End}
 use Rattle.file.specs.declared.field.End.TheVariants.{Colon, Comma, Line, CommaOrLine}
 use Rattle.file.specs.declared.field.Field.{Field}
 use Rattle.file.specs.declared.offer.BlockRead.{BlockRead}
+use Rattle.file.specs.declared.item.Item.TheVariants as item
+use Rattle.file.specs.declared.key.Key.TheVariants.{Offer}
+use Rattle.file.specs.declared.position.Position.{Position}
 use Rattle.file.proofs.Fields.{some_end}
 use Rattle.file.proofs.Places.{first_breaks_at, later_breaks_at, same_form_breaks, stands_joined}
-use Rattle.file.proofs.Rows.{RowForm, Cons, Part, Calls, NumberText, AllOf, Digit, Clean, apart, digits_all, clean_decimal, all_of_append, field_first, field_later, ending_some, comma_end, line_end, clean_number, row_stands}
-use Rattle.file.proofs.Shapes.{Blocks, number_first, calls_comma}
+use Rattle.file.proofs.Rows.{RowForm, Cons, Part, Calls, NumberText, AllOf, Digit, Clean, apart, digits_all, clean_decimal, all_of_append, field_first, field_later, ending_some, line_end, row_stands}
+use Rattle.file.proofs.Shapes.{Blocks, blocks_sound, number_first, number_later, number_stands, calls_comma}
 
 colon_end : (byte : ℕ) → allowed Colon byte ≡ true → byte ≡ 58
 colon_end byte a = grind (arith, nat_tests)
@@ -58,9 +63,9 @@ no_digit_colon d = omega arith
 
 -- the price of a block breaks behind its size
 pub price_breaks : (end : End) (file : List ℕ) (start place : ℕ) (size : Field) → ReadNumber Colon file start size →
-    BreaksAt (NumberField end) file size.next place → BreaksAt (BlockField end) file start place
+    BreaksAt (NumberField end) size.next.file.now size.next.at place → BreaksAt (BlockField end) file start place
 price_breaks end file start place size n b =
-    later_breaks_at (NumberField end) (BlockField end) (decimal size.value ++ 58 ∷ []) file start size.next place
+    later_breaks_at (NumberField end) (BlockField end) (decimal size.value ++ 58 ∷ []) file start size.next.at place
     (λ t p.
     record {
       block = record { size = size.value; price = p.value };
@@ -78,14 +83,20 @@ price_breaks end file start place size n b =
     ∙ append_assoc (decimal w.block.size) (58 ∷ []) ((decimal w.block.price ++ w.byte ∷ []) ++ more) in
     let r = apart Digit (decimal size.value) (decimal w.block.size) 58 58 later ((decimal w.block.price ++ w.byte ∷ []) ++ more) (digits_all size.value n.word) (digits_all w.block.size w.size) no_digit_colon no_digit_colon whole in
     (decimal w.block.price ++ w.byte ∷ [], record { value = w.block.price; byte = w.byte; word = w.price; ends = w.ends; same = refl }, r.2))
-    (subst (λ (c : ℕ). Stands file start size.next (decimal size.value ++ c ∷ [])) (colon_end size.end n.ends) n.stands) b
+    (subst (λ (c : ℕ). Stands file start size.next.at (decimal size.value ++ c ∷ [])) (colon_end n.byte n.ends) n.stands.stands)
+    (subst (λ (f : List ℕ). BreaksAt (NumberField end) f size.next.at place) n.stands.same b)
 
-pub block_stands : (end : End) (file : List ℕ) (start : ℕ) (size price : Field) → ReadNumber Colon file start size → ReadNumber end file size.next price →
-    Stands file start price.next ((decimal size.value ++ 58 ∷ decimal price.value) ++ price.end ∷ [])
+pub block_stands : (end : End) (file : List ℕ) (start : ℕ) (size price : Field) → ReadNumber Colon file start size → (p : ReadNumber end size.next.file.now size.next.at price) →
+    StandsBefore file start price.next ((decimal size.value ++ 58 ∷ decimal price.value) ++ p.byte ∷ [])
 block_stands end file start size price n p =
-    subst (λ (t : List ℕ). Stands file start price.next t)
-    (ap (λ (c : ℕ). (decimal size.value ++ c ∷ []) ++ (decimal price.value ++ price.end ∷ [])) (colon_end size.end n.ends) ∙ regroup (decimal size.value) (58 ∷ []) (decimal price.value) price.end)
-    (stands_joined file start size.next price.next (decimal size.value ++ size.end ∷ []) (decimal price.value ++ price.end ∷ []) n.stands p.stands)
+    record {
+      same = p.stands.same ∙ n.stands.same;
+      stands =
+          subst (λ (t : List ℕ). Stands file start price.next.at t)
+          (ap (λ (c : ℕ). (decimal size.value ++ c ∷ []) ++ (decimal price.value ++ p.byte ∷ [])) (colon_end n.byte n.ends) ∙ regroup (decimal size.value) (58 ∷ []) (decimal price.value) p.byte)
+          (stands_joined file start size.next.at price.next.at (decimal size.value ++ n.byte ∷ []) (decimal price.value ++ p.byte ∷ []) n.stands.stands
+          (subst (λ (f : List ℕ). Stands f size.next.at price.next.at (decimal price.value ++ p.byte ∷ [])) n.stands.same p.stands.stands));
+    }
 
 -- the text of a block
 pub record BlockText (text : List ℕ) : Type 0 where
@@ -188,23 +199,19 @@ calls_last = record {
   from = λ byte a. ([], inl refl, sym (line_end byte a));
 }
 
--- what is known when so many blocks, each with its comma, are read
-pub record Reading (file : List ℕ) (start next : ℕ) (blocks : List Block) (count : ℕ) : Type 0 where
-  pub few : count ≤ 6
-  pub places : length blocks ≡ 7
-  pub within : next ≤ length file
-  pub words : BlockWords (take count blocks)
-  pub padded : blocks ≡ take count blocks ++ replicate (7 - count) no_block
-  pub breaks : (place : ℕ) → BreaksAt (RowForm (Blocks (suc (6 - count)))) file next place → BreaksAt (RowForm (Blocks 7)) file start place
-  pub stands : (rest : List Block) (end : ℕ) → Stands file next end (row (map block_text rest)) → 0 < length rest → Stands file start end (row (map block_text (take count blocks ++ rest)))
+-- what is known when these blocks, each with its comma, are read
+pub record Reading (file : List ℕ) (start : ℕ) (next : Position) (blocks : List Block) : Type 0 where
+  pub few : length blocks ≤ 6
+  pub same : next.file.now ≡ file
+  pub words : BlockWords blocks
+  pub breaks : (place : ℕ) → BreaksAt (RowForm (Blocks (suc (6 - length blocks)))) file next.at place → BreaksAt (RowForm (Blocks 7)) file start place
+  pub stands : (rest : List Block) (end : ℕ) → Stands file next.at end (row (map block_text rest)) → 0 < length rest → Stands file start end (row (map block_text (blocks ++ rest)))
 
-pub reading_none : (file : List ℕ) (start : ℕ) (blocks : List Block) → blocks ≡ replicate 7 no_block → start ≤ length file → Reading file start start blocks 0
-reading_none file start blocks e within = record {
+pub reading_none : (here : Position) → Reading here.file.now here.at here []
+reading_none here = record {
   few = omega arith;
-  places = ap length e;
-  within = within;
+  same = refl;
   words = tt;
-  padded = e;
   breaks = λ place b. b;
   stands = λ rest end s some. s;
 }
@@ -222,26 +229,14 @@ block_broke count end file start place few e b =
     row_first (6 - count) end file start place (subst (λ (m : ℕ). Calls end (Further m)) (sym n) (subst (λ (d : End). Calls d (Further 0)) (sym line) calls_last)) b)
     (cases_lt count 6)
 
-pub reading_breaks : (file : List ℕ) (start next : ℕ) (blocks : List Block) (count : ℕ) → Reading file start next blocks count → (end : End) (place : ℕ) → end ≡ block_end count →
-    BreaksAt (BlockField end) file next place → BreaksAt (RowForm (Blocks 7)) file start place
-reading_breaks file start next blocks count r end place e b = r.breaks place (block_broke count end file next place r.few e b)
+pub reading_breaks : (file : List ℕ) (start : ℕ) (next : Position) (blocks : List Block) → Reading file start next blocks → (end : End) (place : ℕ) → end ≡ block_end (length blocks) →
+    BreaksAt (BlockField end) next.file.now next.at place → BreaksAt (RowForm (Blocks 7)) file start place
+reading_breaks file start next blocks r end place e b =
+    r.breaks place (block_broke (length blocks) end file next.at place r.few e (subst (λ (f : List ℕ). BreaksAt (BlockField end) f next.at place) r.same b))
 
 words_more : (bs : List Block) (b : Block) → BlockWords bs → Word b.size → Word b.price → BlockWords (bs ++ b ∷ [])
 words_more [] b w size price = (size, price, tt)
 words_more (c ∷ bs) b w size price = (w.0, w.1, words_more bs b w.2 size price)
-
-written_more : (blocks : List Block) (count : ℕ) (b : Block) → count ≤ 6 → length blocks ≡ 7 → take (count + 1) (set blocks count b) ≡ take count blocks ++ b ∷ []
-written_more blocks count b few places = take_more_set blocks count b (omega arith)
-
-padded_more : (blocks : List Block) (count : ℕ) (b : Block) → count ≤ 6 → length blocks ≡ 7 → blocks ≡ take count blocks ++ replicate (7 - count) no_block →
-    set blocks count b ≡ (take count blocks ++ b ∷ []) ++ replicate (7 - (count + 1)) no_block
-padded_more blocks count b few places padded =
-    let n : 7 - count ≡ suc (6 - count) = omega arith in
-    let m : 6 - count ≡ 7 - (count + 1) = omega arith in
-    ap (λ (t : List Block). set t count b) (padded ∙ ap (λ (k : ℕ). take count blocks ++ replicate k no_block) n)
-    ∙ set_at (take count blocks) no_block (replicate (6 - count) no_block) b count (length-take-le count blocks (omega arith))
-    ∙ ap (λ (k : ℕ). take count blocks ++ b ∷ replicate k no_block) m
-    ∙ sym (append_assoc (take count blocks) (b ∷ []) (replicate (7 - (count + 1)) no_block))
 
 -- a block that does not end the line has a comma behind it, and more may come
 more_to_come : (count byte : ℕ) → count ≤ 6 → allowed (block_end count) byte ≡ true → (byte ≡ 10 → ⊥) → (byte ≡ 44) × (count < 6)
@@ -254,40 +249,41 @@ more_to_come count byte few a not-Line =
     absurd (not-Line (line_end byte (subst (λ (d : End). allowed d byte ≡ true) (cond-false (ltb count 6) CommaOrLine Line (le-ltb count 6 le)) a))))
     (cases_lt count 6)
 
-pub reading_more : (file : List ℕ) (start next : ℕ) (blocks : List Block) (count : ℕ) → Reading file start next blocks count → (read : BlockRead) → ReadBlock (block_end count) file next read →
-    (read.end ≡ 10 → ⊥) → Reading file start read.next (set blocks count read.block) (count + 1)
-reading_more file start next blocks count r read b not-Line =
-    let comma = more_to_come count read.end r.few b.ends not-Line in
-    let front = written_more blocks count read.block r.few r.places in
-    let s : Stands file next read.next (block_text read.block ++ 44 ∷ []) = subst (λ (c : ℕ). Stands file next read.next (block_text read.block ++ c ∷ [])) comma.0 b.stands in
-    let n : 6 - count ≡ suc (6 - (count + 1)) = omega (arith, comma.1) in
+one_longer : (blocks : List Block) (b : Block) → length (blocks ++ b ∷ []) ≡ length blocks + 1
+one_longer blocks b = length-append blocks (b ∷ [])
+
+pub reading_more : (file : List ℕ) (start : ℕ) (next : Position) (blocks : List Block) → Reading file start next blocks → (read : BlockRead) → ReadBlock (block_end (length blocks)) next.file.now next.at read →
+    read.ends_line ≡ false → Reading file start read.next (blocks ++ read.block ∷ [])
+reading_more file start next blocks r read other not-Line =
+    let b = subst (λ (f : List ℕ). ReadBlock (block_end (length blocks)) f next.at read) r.same other in
+    let comma = more_to_come (length blocks) b.byte r.few b.ends (eqb-false b.byte 10 (sym b.line ∙ not-Line)) in
+    let s : Stands file next.at read.next.at (block_text read.block ++ 44 ∷ []) = subst (λ (c : ℕ). Stands file next.at read.next.at (block_text read.block ++ c ∷ [])) comma.0 b.stands.stands in
+    let n : 6 - length blocks ≡ suc (6 - length (blocks ++ read.block ∷ [])) = omega (arith, comma.1, one_longer blocks read.block) in
     record {
-      few = omega (arith, comma.1);
-      places = length-set blocks count read.block ∙ r.places;
-      within = b.stands.within;
-      words = subst BlockWords (sym front) (words_more (take count blocks) read.block r.words b.size b.price);
-      padded = padded_more blocks count read.block r.few r.places r.padded ∙ ap (λ (t : List Block). t ++ replicate (7 - (count + 1)) no_block) (sym front);
-      breaks = λ place k. r.breaks place (row_later (6 - count) file next read.next place read.block b.size b.price s (subst (λ (m : ℕ). BreaksAt (RowForm (Blocks m)) file read.next place) (sym n) k));
+      few = omega (arith, comma.1, one_longer blocks read.block);
+      same = b.stands.same;
+      words = words_more blocks read.block r.words b.size b.price;
+      breaks = λ place k.
+          r.breaks place (row_later (6 - length blocks) file next.at read.next.at place read.block b.size b.price s (subst (λ (m : ℕ). BreaksAt (RowForm (Blocks m)) file read.next.at place) (sym n) k));
       stands = λ rest end k some.
           (let whole = r.stands (read.block ∷ rest) end
-          (row_stands file next read.next end (block_text read.block) 44 (map block_text rest) s (sym (ending_some (map block_text rest) (omega (arith, length-map rest block_text)))) k) (omega arith) in
-          subst (λ (t : List Block). Stands file start end (row (map block_text t))) (sym (ap (λ (t : List Block). t ++ rest) front ∙ append_assoc (take count blocks) (read.block ∷ []) rest)) whole);
+          (row_stands file next.at read.next.at end (block_text read.block) 44 (map block_text rest) s (sym (ending_some (map block_text rest) (omega (arith, length-map rest block_text)))) k) (omega arith) in
+          subst (λ (t : List Block). Stands file start end (row (map block_text t))) (sym (append_assoc blocks (read.block ∷ []) rest)) whole);
     }
 
-pub reading_done : (file : List ℕ) (start next : ℕ) (blocks : List Block) (count : ℕ) → Reading file start next blocks count → (read : BlockRead) → ReadBlock (block_end count) file next read →
-    read.end ≡ 10 → SoundBlocks (set blocks count read.block) (count + 1) × Stands file start read.next (row (map block_text (take (count + 1) (set blocks count read.block))))
-reading_done file start next blocks count r read b line =
-    let front = written_more blocks count read.block r.few r.places in (
-      record {
-        places = length-set blocks count read.block ∙ r.places;
-        some = omega arith;
-        few = omega (arith, r.few);
-        words = subst BlockWords (sym front) (words_more (take count blocks) read.block r.words b.size b.price);
-        padded = padded_more blocks count read.block r.few r.places r.padded ∙ ap (λ (t : List Block). t ++ replicate (7 - (count + 1)) no_block) (sym front);
-      },
-      subst (λ (t : List Block). Stands file start read.next (row (map block_text t))) (sym front)
-          (r.stands (read.block ∷ []) read.next (subst (λ (c : ℕ). Stands file next read.next (block_text read.block ++ c ∷ [])) line b.stands) (omega arith)),
-    )
+pub reading_done : (file : List ℕ) (start : ℕ) (next : Position) (blocks : List Block) → Reading file start next blocks → (read : BlockRead) → ReadBlock (block_end (length blocks)) next.file.now next.at read →
+    read.ends_line ≡ true → ReadBlocks file start (blocks ++ read.block ∷ []) read.next
+reading_done file start next blocks r read other line =
+    let b = subst (λ (f : List ℕ). ReadBlock (block_end (length blocks)) f next.at read) r.same other in
+    record {
+      some = omega (arith, one_longer blocks read.block);
+      few = omega (arith, r.few, one_longer blocks read.block);
+      words = words_more blocks read.block r.words b.size b.price;
+      stands = record {
+        same = b.stands.same;
+        stands = r.stands (read.block ∷ []) read.next.at (subst (λ (c : ℕ). Stands file next.at read.next.at (block_text read.block ++ c ∷ [])) (eqb-true b.byte 10 (sym b.line ∙ line)) b.stands.stands) (omega arith);
+      };
+    }
 
 -- rows of blocks as the contracts name them
 pub block_row : (file : List ℕ) (start place : ℕ) → BreaksAt (RowForm (Blocks 7)) file start place → BreaksAt (BlockRow 7) file start place
@@ -311,12 +307,17 @@ asset_breaks file start place b =
     number_first (Blocks 7) Comma file start place
     (calls_comma (Blocks 7) (some_blocks 7) (block_text none ∷ []) (record { blocks = none ∷ []; some = omega arith; few = omega arith; words = (omega arith, omega arith, tt); same = refl })) b
 
-pub blocks_break : (file : List ℕ) (start place : ℕ) (field : Field) → ReadNumber Comma file start field → BreaksAt (BlockRow 7) file field.next place → BreaksAt (RowForm (Cons NumberText (Blocks 7))) file start place
-blocks_break file start place field n b =
-    field_later NumberText (Blocks 7) (Blocks 7) (decimal field.value) file start field.next place (record { value = field.value; word = n.word; same = refl }) clean_number
-    (λ rest r. (r, some_blocks 7 rest r)) (λ rest r some. r)
-    (subst (λ (c : ℕ). Stands file start field.next (decimal field.value ++ c ∷ [])) (comma_end field.end n.ends) n.stands)
-    (row_of_blocks file field.next place b)
+pub blocks_break : (file : List ℕ) (start place : ℕ) (field : Field) → ReadNumber Comma file start field → BreaksAt (BlockRow 7) field.next.file.now field.next.at place → BreaksAt (RowForm (Cons NumberText (Blocks 7))) file start place
+blocks_break file start place field n b = number_later (Blocks 7) file start place field (some_blocks 7) n (row_of_blocks field.next.file.now field.next.at place b)
 
-pub some_sound : (blocks : List Block) (count : ℕ) → SoundBlocks blocks count → 0 < length (map block_text (take count blocks))
-some_sound blocks count s = omega (arith, length-map (take count blocks) block_text, length-take-le count blocks (omega (arith, s.places, s.few)), s.some)
+-- the blocks that were read are those of an item with their list
+pub offer_read : (file : List ℕ) (start : ℕ) (asset : Field) (blocks : List Block) (next : Position) → ReadNumber Comma file start asset → ReadBlocks asset.next.file.now asset.next.at blocks next →
+    ReadBody Offer file start (record { item = item.Offer asset.value (block_list blocks); next = next.at })
+offer_read file start asset blocks next n b =
+    record {
+      sound = (n.word, blocks_sound blocks b.some b.few b.words);
+      keyed = refl;
+      stands = number_stands file start next.at asset (map block_text (listed (block_list blocks))) n
+          (subst (λ (t : List Block). 0 < length (map block_text t)) (sym (listed_block_list blocks b.few)) (omega (arith, length-map blocks block_text, b.some)))
+          (subst (λ (t : List Block). Stands asset.next.file.now asset.next.at next.at (row (map block_text t))) (sym (listed_block_list blocks b.few)) b.stands.stands);
+    }

@@ -9,6 +9,7 @@ use Rattle.file.specs.Line.{BrokenFields, ReadsLine, Exactly}
 use Rattle.file.specs.Place.{Stands}
 use Rattle.file.specs.Row.{row}
 use Rattle.file.specs.declared.body.Read.{Read}
+use Rattle.file.specs.declared.broken.BrokenForm.{BrokenForm}
 use Rattle.file.specs.declared.item.Item.{Item}
 use Rattle.file.specs.declared.key.Key.{Key}
 use Rattle.file.proofs.Places.{drop_stands, stands_from_drop}
@@ -34,7 +35,7 @@ not_broken file start next last place item sound s w =
     let read : drop start file ≡ between start place file ++ drop place file = drop_stands file start place (between start place file) (record { order = b.order; within = b.within; same = refl }) in
     b.breaks.absent (writing item) (drop next file) (record { item = item; sound = sound; keyed = keys; same = refl }) (sym read ∙ drop_stands file start next (writing item) s)
 
-pub exactly : (file : List ℕ) (start : ℕ) (last : Option Key) (r : Result Read ℕ) → ReadsLine file start last r → Exactly file start last r
+pub exactly : (file : List ℕ) (start : ℕ) (last : Option Key) (r : Result Read BrokenForm) → ReadsLine file start last r → Exactly file start last r
 exactly file start last (Ok read) b = λ item next sound allowed s.
     let same : read.item ≡ item =
     written_once read.item item (drop read.next file) (drop next file) b.sound sound
@@ -42,8 +43,8 @@ exactly file start last (Ok read) b = λ item next sound allowed s.
     let place : read.next ≡ next =
     stands_long file start read.next (writing read.item) b.stands ∙ ap (λ (x : Item). start + length (writing x)) same ∙ sym (stands_long file start next (writing item) s) in
     λ i. Ok (record { item = same i; next = place i })
-exactly file start last (Err place) b = λ item next sound allowed s.
+exactly file start last (Err broken) b = λ item next sound allowed s.
     absurd (⊎_elim
-    (λ (p : NoKey file start last × (place ≡ 1)). p.0 (key_of item) (record { allowed = allowed; stands = key_stands file start next item s }))
-    (λ (w : BrokenFields file start last place). not_broken file start next last place item sound s w)
+    (λ (p : NoKey file start last × (broken.place ≡ 1)). p.0 (key_of item) (record { allowed = allowed; stands = key_stands file start next item s }))
+    (λ (w : BrokenFields file start last broken.place). not_broken file start next last broken.place item sound s w)
     b)

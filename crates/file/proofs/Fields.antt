@@ -1,5 +1,6 @@
 -- Where a number with the byte that ends it breaks. Assumes nothing.
-use Rattle.std.proofs.Common.{◌≡◌, ℕ, suc, ◌+◌, ◌-◌, ◌<◌, ◌≤◌, true, ◌⊎◌, List, [], ◌∷◌, ◌++◌, length, get_or, drop, decimal, sym, refl, ap, ◌∙◌, subst, inl, inr, ⊎_elim, arith}
+use Rattle.std.proofs.Common.{◌≡◌, ℕ, suc, ◌+◌, ◌-◌, ◌<◌, ◌≤◌, true, false, ◌⊎◌, List, [], ◌∷◌, ◌++◌, length, get_or, drop, decimal, sym, refl, ap, ◌∙◌, subst, inl, inr, ⊎_elim, arith}
+use Rattle.std.specs.Char.{is_ascii_uppercase}
 use Rattle.std.specs.Int.{IsInRange}
 use Rattle.std.specs.List.{between}
 use Rattle.std.proofs.lemmas.Bool.Decides.{nat_tests}
@@ -8,12 +9,14 @@ use Rattle.std.proofs.lemmas.Fmt.{decimal_nonempty}
 use Rattle.std.proofs.lemmas.List.{append_assoc, append-nil, length-append, drop_more, length-drop, same_from_push}
 use Rattle.std.proofs.lemmas.List.Edits.{between_none, between_more}
 use Rattle.file.specs.Number.{Word, Longest}
-use Rattle.file.specs.Place.{Stands, Breaks, BreaksAt}
+use Rattle.file.specs.Place.{Stands, Breaks, BreaksAt, ByteAt, Behind, StandsBefore}
 use Rattle.file.specs.Field.{allowed, NumberField, LetterField, Capital}
+use Rattle.file.specs.declared.broken.BrokenForm.{BrokenForm}
 use Rattle.file.specs.declared.field.End.{End}
 use Rattle.file.specs.declared.field.End.TheVariants.{Colon, Comma, Line, CommaOrLine}
+use Rattle.file.specs.declared.position.Position.{Position}
 use Rattle.file.proofs.Numbers.{digit_next}
-use Rattle.file.proofs.Places.{overlap}
+use Rattle.file.proofs.Places.{overlap, nothing_stands, stands_more}
 
 -- no digit ends a field
 pub no_digit : (end : End) (byte : ℕ) → allowed end byte ≡ true → IsInRange 48 57 byte → ⊥
@@ -93,7 +96,7 @@ last_byte end file start value next l bad n stop byte w a later (d ∷ x ∷ z) 
     omega arith
 
 -- a number whose end byte is missing breaks behind its digits
-pub field_breaks : (end : End) (file : List ℕ) (start value next : ℕ) → Longest file start value next →
+field_breaks : (end : End) (file : List ℕ) (start value next : ℕ) → Longest file start value next →
     ((byte : ℕ) (later : List ℕ) → start < next → drop next file ≡ byte ∷ later → allowed end byte ≡ true → ⊥) → BreaksAt (NumberField end) file start next
 field_breaks end file start value next l bad =
     let read = between start next file in
@@ -130,31 +133,43 @@ byte_left file place byte later e =
     let inside : place < length file = omega arith in
     (inside, ap (λ (t : List ℕ). get_or t 0 0) (sym (drop_more file place 0 inside) ∙ e))
 
--- the digits and their end byte stand in the file
-pub field_stands : (file : List ℕ) (start value next : ℕ) → Longest file start value next → start < next → next < length file →
-    Stands file start (next + 1) (decimal value ++ get_or file next 0 ∷ [])
-field_stands file start value next l lt inside =
-    record { order = omega arith; within = omega arith; same = between_more file start next 0 l.order inside ∙ ap (λ (t : List ℕ). t ++ get_or file next 0 ∷ []) (l.same lt) }
+byte_here : (file : List ℕ) (here : Position) (byte : ℕ) (later : List ℕ) → here.file.now ≡ file → drop here.at file ≡ byte ∷ later → ByteAt here.file.now here.at byte
+byte_here file here byte later same e =
+    let p = byte_left file here.at byte later e in
+    subst (λ (f : List ℕ). ByteAt f here.at byte) (sym same) (record { inside = p.0; same = p.1 })
 
-pub no_end : (end : End) (file : List ℕ) (start next : ℕ) → (start < next → next < length file → allowed end (get_or file next 0) ≡ true → ⊥) →
-    (byte : ℕ) (later : List ℕ) → start < next → drop next file ≡ byte ∷ later → allowed end byte ≡ true → ⊥
-no_end end file start next bad byte later lt e a =
-    let p = byte_left file next byte later e in
-    bad lt p.0 (subst (λ (b : ℕ). allowed end b ≡ true) (sym p.1) a)
+-- the digits and their end byte stand in the file
+pub field_stands : (file : List ℕ) (start value byte : ℕ) (end next : Position) → Longest file start value end.at → end.file.now ≡ file → start < end.at →
+    ByteAt end.file.now end.at byte → Behind end.file.now (end.at + 1) next → StandsBefore file start next (decimal value ++ byte ∷ [])
+field_stands file start value byte end next l same lt here behind =
+    let at_end : ByteAt file end.at byte = subst (λ (f : List ℕ). ByteAt f end.at byte) same here in
+    record {
+      same = behind.same ∙ same;
+      stands = stands_more file start end.at (decimal value) byte next.at (record { order = l.order; within = l.within; same = l.same lt }) at_end.inside at_end.same behind.at_is;
+    }
+
+-- a number with no byte behind it that may end it breaks there
+pub field_broken : (end : End) (file : List ℕ) (start value : ℕ) (here : Position) (broken : BrokenForm) → Longest file start value here.at → here.file.now ≡ file → broken ≡ record { place = here.at } →
+    ((byte : ℕ) → start < here.at → ByteAt here.file.now here.at byte → allowed end byte ≡ true → ⊥) → BreaksAt (NumberField end) file start broken.place
+field_broken end file start value here broken l same e bad =
+    subst (λ (b : BrokenForm). BreaksAt (NumberField end) file start b.place) (sym e)
+    (field_breaks end file start value here.at l (λ byte later lt left a. bad byte lt (byte_here file here byte later same left) a))
 
 one_byte : (file : List ℕ) (start : ℕ) → start < length file → between start (start + 1) file ≡ get_or file start 0 ∷ []
 one_byte file start inside = between_more file start start 0 (omega arith) inside ∙ ap (λ (t : List ℕ). t ++ get_or file start 0 ∷ []) (between_none file start)
 
-pub letter_stands : (file : List ℕ) (start : ℕ) → start + 1 < length file → get_or file (start + 1) 0 ≡ 44 → Stands file start (start + 1 + 1) (get_or file start 0 ∷ 44 ∷ [])
-letter_stands file start inside comma =
+pub letter_stands : (file : List ℕ) (start letter : ℕ) (comma next : Position) → ByteAt file start letter → Behind file (start + 1) comma → ByteAt comma.file.now comma.at 44 → Behind comma.file.now (comma.at + 1) next →
+    StandsBefore file start next (letter ∷ 44 ∷ [])
+letter_stands file start letter comma next l b k n =
+    let at_comma : ByteAt file (start + 1) 44 = subst (λ (at : ℕ). ByteAt file at 44) b.at_is (subst (λ (f : List ℕ). ByteAt f comma.at 44) b.same k) in
+    let one : Stands file start (start + 1) (letter ∷ []) = stands_more file start start [] letter (start + 1) (nothing_stands file start start (omega (arith, l.inside)) refl) l.inside l.same refl in
     record {
-      order = omega arith;
-      within = omega arith;
-      same = between_more file start (start + 1) 0 (omega arith) inside ∙ ap (λ (t : List ℕ). t ++ get_or file (start + 1) 0 ∷ []) (one_byte file start (omega arith)) ∙ ap (λ (b : ℕ). get_or file start 0 ∷ b ∷ []) comma;
+      same = n.same ∙ b.same;
+      stands = stands_more file start (start + 1) (letter ∷ []) 44 next.at one at_comma.inside at_comma.same (omega (arith, n.at_is, b.at_is));
     }
 
 -- no letter stands here
-pub letter_breaks : (file : List ℕ) (start : ℕ) → start ≤ length file → (start < length file → Capital (get_or file start 0) → ⊥) → BreaksAt LetterField file start start
+letter_breaks : (file : List ℕ) (start : ℕ) → start ≤ length file → (start < length file → Capital (get_or file start 0) → ⊥) → BreaksAt LetterField file start start
 letter_breaks file start within bad =
     let none : between start start file ≡ [] = between_none file start in
     record {
@@ -174,7 +189,7 @@ letter_breaks file start within bad =
     }
 
 -- no comma stands behind the letter
-pub comma_breaks : (file : List ℕ) (start : ℕ) → start < length file → Capital (get_or file start 0) → (start + 1 < length file → get_or file (start + 1) 0 ≡ 44 → ⊥) → BreaksAt LetterField file start (start + 1)
+comma_breaks : (file : List ℕ) (start : ℕ) → start < length file → Capital (get_or file start 0) → (start + 1 < length file → get_or file (start + 1) 0 ≡ 44 → ⊥) → BreaksAt LetterField file start (start + 1)
 comma_breaks file start inside capital bad =
     let letter = get_or file start 0 in
     record {
@@ -194,3 +209,24 @@ comma_breaks file start inside capital bad =
             bad p.0 p.1);
       });
     }
+
+pub is_capital : (letter : ℕ) → true ≡ is_ascii_uppercase letter → Capital letter
+is_capital letter e = grind (arith, nat_tests)
+
+pub no_capital : (letter : ℕ) → false ≡ is_ascii_uppercase letter → Capital letter → ⊥
+no_capital letter e capital = grind (arith, nat_tests)
+
+pub letter_missing : (file : List ℕ) (here : Position) (broken : BrokenForm) → here.file.now ≡ file → broken ≡ record { place = here.at } → ((byte : ℕ) → ByteAt here.file.now here.at byte → Capital byte → ⊥) →
+    BreaksAt LetterField file here.at broken.place
+letter_missing file here broken same e bad =
+    subst (λ (b : BrokenForm). BreaksAt LetterField file here.at b.place) (sym e)
+    (letter_breaks file here.at (subst (λ (f : List ℕ). here.at ≤ length f) same here.within) (λ inside capital.
+    bad (get_or file here.at 0) (subst (λ (f : List ℕ). ByteAt f here.at (get_or file here.at 0)) (sym same) (record { inside = inside; same = refl })) capital))
+
+pub comma_missing : (file : List ℕ) (start letter : ℕ) (comma : Position) (broken : BrokenForm) → ByteAt file start letter → Capital letter → Behind file (start + 1) comma → broken ≡ record { place = comma.at } →
+    (ByteAt comma.file.now comma.at 44 → ⊥) → BreaksAt LetterField file start broken.place
+comma_missing file start letter comma broken l capital b e bad =
+    subst (λ (x : BrokenForm). BreaksAt LetterField file start x.place) (sym e)
+    (subst (λ (at : ℕ). BreaksAt LetterField file start at) (sym b.at_is)
+    (comma_breaks file start l.inside (subst (λ (x : ℕ). Capital x) (sym l.same) capital) (λ inside is.
+    bad (subst (λ (f : List ℕ). ByteAt f comma.at 44) (sym b.same) (subst (λ (at : ℕ). ByteAt file at 44) (sym b.at_is) (record { inside = inside; same = is }))))))

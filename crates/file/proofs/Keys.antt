@@ -1,9 +1,10 @@
 -- When a key stands at a place, and which keys were tried. Assumes nothing.
-use Rattle.std.proofs.Common.{◌≡◌, ℕ, ◌+◌, ◌<◌, ◌≤◌, List, [], ◌∷◌, length, get_or, sym, refl, ap, ◌∙◌, subst, ⊎_elim, arith}
+use Rattle.std.proofs.Common.{◌≡◌, ℕ, ◌+◌, ◌<◌, ◌≤◌, List, [], ◌∷◌, length, get_or, sym, refl, ap, ◌∙◌, subst, ⊎_elim, arith, MatchOption, Option, Some, None}
+use Rattle.std.specs.List.{AllWithin, HoldsAt}
 use Rattle.std.proofs.lemmas.List.{take_all}
 use Rattle.std.proofs.lemmas.List.Edits.{get_or-between}
 use Rattle.std.proofs.lemmas.Bool.{cases_lt}
-use Rattle.file.specs.Key.{order_of}
+use Rattle.file.specs.Key.{order_of, NoKey, FoundKey}
 use Rattle.file.specs.Literal.{Agrees}
 use Rattle.file.specs.Place.{Stands}
 use Rattle.file.specs.declared.key.Key.{Key}
@@ -42,3 +43,14 @@ order_small Shed = omega arith
 order_small Meter = omega arith
 order_small Instruct = omega arith
 order_small Rule = omega arith
+
+abbrev keys : List Key
+keys = Hour ∷ Asset ∷ Offer ∷ Order ∷ Shed ∷ Meter ∷ Instruct ∷ Rule ∷ []
+
+-- the first key that is found of all
+pub key_found : (file : List ℕ) (start : ℕ) (last found : Option Key) →
+    MatchOption found (AllWithin (λ (key : Key). FoundKey file start last key → ⊥) keys 0 (length keys))
+    (λ (key : Key). FoundKey file start last key × (i : ℕ) × (i < length keys) × HoldsAt (λ (other : Key). other ≡ key) keys i × AllWithin (λ (other : Key). FoundKey file start last other → ⊥) keys 0 i) →
+    MatchOption found (NoKey file start last) (λ key. FoundKey file start last key)
+key_found file start last None none = λ key here. none (order_of key) Hour (omega arith) (order_small key) (subst (λ (k : Key). FoundKey file start last k) (sym (key_at Hour key)) here)
+key_found file start last (Some key) some = some.0

@@ -1,3 +1,4 @@
+pub mod Agreements
 pub mod BlockRows
 pub mod Breaking
 pub mod Exact
@@ -5,6 +6,7 @@ pub mod Fields
 pub mod Keys
 pub mod Lines
 pub mod Names
+pub mod NumberRows
 pub mod Numbers
 pub mod Places
 pub mod Printing

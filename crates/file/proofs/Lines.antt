@@ -9,10 +9,11 @@ use Rattle.file.specs.Place.{Stands, BreaksAt}
 use Rattle.file.specs.Row.{row}
 use Rattle.file.specs.declared.body.Read.{Read}
 use Rattle.file.specs.declared.key.Key.{Key}
+use Rattle.file.specs.declared.position.Position.{Position}
 use Rattle.file.proofs.Places.{later_breaks_at, stands_joined}
 
-pub line_read : (file : List ℕ) (start mid : ℕ) (last : Option Key) (key : Key) (read : Read) → mid ≡ start + length (key_text key) → FoundKey file start last key → ReadBody key file mid read → ReadLine file start last read
-line_read file start mid last key read m found b =
+of_body_read : (file : List ℕ) (start mid : ℕ) (last : Option Key) (key : Key) (read : Read) → mid ≡ start + length (key_text key) → FoundKey file start last key → ReadBody key file mid read → ReadLine file start last read
+of_body_read file start mid last key read m found b =
     record {
       allowed = subst (λ (k : Key). follows last k ≡ true) (sym b.keyed) found.allowed;
       sound = b.sound;
@@ -20,9 +21,9 @@ line_read file start mid last key read m found b =
           (stands_joined file start mid read.next (key_text key) (row (fields read.item)) (subst (λ (n : ℕ). Stands file start n (key_text key)) (sym m) found.stands) b.stands);
     }
 
-pub line_broken : (file : List ℕ) (start mid : ℕ) (last : Option Key) (key : Key) (place : ℕ) → mid ≡ start + length (key_text key) → FoundKey file start last key → BreaksAt (Body key) file mid place →
+of_body_broken : (file : List ℕ) (start mid : ℕ) (last : Option Key) (key : Key) (place : ℕ) → mid ≡ start + length (key_text key) → FoundKey file start last key → BreaksAt (Body key) file mid place →
     BrokenFields file start last (place - start + 1)
-line_broken file start mid last key place m found b =
+of_body_broken file start mid last key place m found b =
     let at_place : place ≡ start + (place - start) = omega (arith, b.order) in
     record {
       key = key;
@@ -40,3 +41,14 @@ line_broken file start mid last key place m found b =
           ))
           (subst (λ (n : ℕ). Stands file start n (key_text key)) (sym m) found.stands) b);
     }
+
+-- what stands behind a key is read at a position
+pub line_read : (file : List ℕ) (start : ℕ) (last : Option Key) (key : Key) (read : Read) (body : Position) → body.file.now ≡ file → body.at ≡ start + length (key_text key) → FoundKey file start last key →
+    ReadBody key body.file.now body.at read → ReadLine file start last read
+line_read file start last key read body same at found b =
+    of_body_read file start body.at last key read at found (subst (λ (f : List ℕ). ReadBody key f body.at read) same b)
+
+pub line_broken : (file : List ℕ) (start : ℕ) (last : Option Key) (key : Key) (place : ℕ) (body : Position) → body.file.now ≡ file → body.at ≡ start + length (key_text key) → FoundKey file start last key →
+    BreaksAt (Body key) body.file.now body.at place → BrokenFields file start last (place - start + 1)
+line_broken file start last key place body same at found b =
+    of_body_broken file start body.at last key place at found (subst (λ (f : List ℕ). BreaksAt (Body key) f body.at place) same b)

@@ -5,10 +5,10 @@ use Rattle.std.specs.Str.Parse.{AllDigits}
 use Rattle.std.specs.List.{between}
 use Rattle.std.proofs.lemmas.Str.Parse.{IsNumeralModel, numerals_by_fold, tells_digits, digit_at, digits_value_short}
 use Rattle.std.proofs.lemmas.Fmt.{decimal_digit, decimal_step, length-decimal-le, first_decimal, digits_decimal, digits_value-decimal}
-use Rattle.std.proofs.lemmas.List.{length-append, length-drop, get_or_at, drop_more}
+use Rattle.std.proofs.lemmas.List.{length-append, length-drop, get_or_at, get_or-drop, drop_more}
 use Rattle.std.proofs.lemmas.Bool.{cases_lt, cases_eq}
 use Rattle.std.proofs.lemmas.List.Edits.{length-between, between_more, between_none}
-use Rattle.file.specs.Number.{Word, Started, Goes, Ends}
+use Rattle.file.specs.Number.{Word, Started, Goes, Ends, Longest}
 
 abbrev pub read_on : ℕ → List ℕ → ℕ
 read_on n [] = n
@@ -72,7 +72,7 @@ digits_so_far : (file : List ℕ) (start value next : ℕ) → start < next → 
 digits_so_far file start value next lt within same = sym (ap length same) ∙ length-between file start next within
 
 -- the digits read so far tell how large the number is
-pub started : (file : List ℕ) (start value next : ℕ) → start ≤ next → next ≤ length file → Word value →
+started : (file : List ℕ) (start value next : ℕ) → start ≤ next → next ≤ length file → Word value →
     (next ≡ start → value ≡ 0) → (start < next → between start next file ≡ decimal value) → Started value (next - start)
 started file start value next order within small none same =
     ⊎_elim
@@ -94,7 +94,7 @@ ten_more : (value byte : ℕ) → IsInRange 48 57 byte → ((value * 10 + (byte 
 ten_more value byte digit = (omega arith, omega arith)
 
 -- one more digit makes the text of the number that goes on so
-pub one_digit_more : (file : List ℕ) (start value next more : ℕ) → start ≤ next → next < length file → Word value →
+one_digit_more : (file : List ℕ) (start value next more : ℕ) → start ≤ next → next < length file → Word value →
     (next ≡ start → value ≡ 0) → (start < next → between start next file ≡ decimal value) →
     Goes value (next - start) (get_or file next 0) more → between start (next + 1) file ≡ decimal more
 one_digit_more file start value next more order within small none same goes =
@@ -119,7 +119,7 @@ one_digit_more file start value next more order within small none same goes =
     (cases_eq next start)
 
 -- where the number ends, no number begins with what was read and the next byte
-pub no_longer : (file : List ℕ) (start value next : ℕ) → start ≤ next → next ≤ length file → Word value →
+no_longer : (file : List ℕ) (start value next : ℕ) → start ≤ next → next ≤ length file → Word value →
     (next ≡ start → value ≡ 0) → (start < next → between start next file ≡ decimal value) →
     (next < length file → Ends value (next - start) (get_or file next 0)) →
     (byte n : ℕ) (later more : List ℕ) → Word n → drop next file ≡ byte ∷ later → decimal n ≡ between start next file ++ byte ∷ more → ⊥
@@ -136,3 +136,53 @@ no_longer file start value next order within small none same ends byte n later m
     (λ (large : 2 ^ 32 ≤ value * 10 + (byte - 48)).
     omega (arith, goes_on_value n (decimal value) byte more (omega arith) longer, digits_value-decimal own value (omega arith)))
     stop.1
+
+-- so many digits of a number stand at a place
+pub record Digits (file : List ℕ) (start value digits : ℕ) : Type 0 where
+  pub within : start + digits ≤ length file
+  pub small : Word value
+  pub none : digits ≡ 0 → value ≡ 0
+  pub same : 0 < digits → between start (start + digits) file ≡ decimal value
+
+pub no_digits : (file : List ℕ) (start : ℕ) → start ≤ length file → Digits file start 0 0
+no_digits file start within = record { within = omega arith; small = omega arith; none = λ e. refl; same = λ lt. absurd (omega arith) }
+
+pub digits_started : (file : List ℕ) (start value digits : ℕ) → Digits file start value digits → Started value digits
+digits_started file start value digits d =
+    let k : start + digits - start ≡ digits = omega arith in
+    subst (λ (n : ℕ). Started value n) k (started file start value (start + digits) (omega arith) d.within d.small (λ e. d.none (omega arith)) (λ lt. d.same (omega arith)))
+
+byte_of_rest : (file rest : List ℕ) (start i : ℕ) → rest ≡ drop start file → get_or rest i 0 ≡ get_or file (start + i) 0
+byte_of_rest file rest start i e = ap (λ (t : List ℕ). get_or t i 0) e ∙ get_or-drop start file i 0
+
+long_rest : (file rest : List ℕ) (start : ℕ) → rest ≡ drop start file → length rest ≡ length file - start
+long_rest file rest start e = ap length e ∙ length-drop start file
+
+pub one_more_digit : (file rest : List ℕ) (start value digits more : ℕ) → rest ≡ drop start file → Digits file start value digits → digits < length rest → Goes value digits (get_or rest digits 0) more →
+    Digits file start more (digits + 1)
+one_more_digit file rest start value digits more e d inside goes =
+    let k : digits ≡ start + digits - start = omega arith in
+    let n : start + digits + 1 ≡ start + (digits + 1) = omega arith in
+    let here : start + digits < length file = omega (arith, long_rest file rest start e) in
+    record {
+      within = omega arith;
+      small = goes.small;
+      none = λ z. absurd (omega arith);
+      same = λ lt. subst (λ (m : ℕ). between start m file ≡ decimal more) n
+          (one_digit_more file start value (start + digits) more (omega arith) here d.small (λ z. d.none (omega arith)) (λ some. d.same (omega arith))
+          (subst (λ (m : ℕ). Goes value m (get_or file (start + digits) 0) more) k (subst (λ (b : ℕ). Goes value digits b more) (byte_of_rest file rest start digits e) goes)));
+    }
+
+-- where the digits end, the longest number ends
+pub digits_longest : (file rest : List ℕ) (start value digits next : ℕ) → rest ≡ drop start file → Digits file start value digits → next ≡ start + digits →
+    (digits < length rest → Ends value digits (get_or rest digits 0)) → Longest file start value next
+digits_longest file rest start value digits next e d at ends =
+    let k : digits ≡ start + digits - start = omega arith in
+    subst (λ (n : ℕ). Longest file start value n) (sym at) (record {
+      order = omega arith;
+      within = d.within;
+      small = d.small;
+      same = λ lt. d.same (omega arith);
+      longest = no_longer file start value (start + digits) (omega arith) d.within d.small (λ z. d.none (omega arith)) (λ some. d.same (omega arith)) (λ lt.
+          subst (λ (m : ℕ). Ends value m (get_or file (start + digits) 0)) k (subst (λ (b : ℕ). Ends value digits b) (byte_of_rest file rest start digits e) (ends (omega (arith, long_rest file rest start e)))));
+    })

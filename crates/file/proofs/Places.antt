@@ -1,10 +1,10 @@
 -- How forms are put together: the first part breaks, or what follows the first part breaks. Assumes nothing.
-use Rattle.std.proofs.Common.{◌≡◌, ℕ, ◌+◌, ◌-◌, ◌<◌, ◌≤◌, ◌⊎◌, List, [], ◌∷◌, ◌++◌, length, get_or, take, drop, IsErrAnd, Result, sym, refl, ap, ◌∙◌, subst, inl, inr, ⊎_elim, arith, take-add, MatchResult}
+use Rattle.std.proofs.Common.{◌≡◌, ℕ, ◌+◌, ◌-◌, ◌<◌, ◌≤◌, ◌⊎◌, List, [], ◌∷◌, ◌++◌, length, get_or, take, drop, IsErrAnd, Result, sym, refl, ap, ◌∙◌, subst, inl, inr, ⊎_elim, arith, take-add, MatchResult, MatchOption, Option, Some, None}
 use Rattle.std.specs.List.{between}
 use Rattle.std.proofs.lemmas.List.{append_assoc, append-nil, drop-drop, take-append-drop, take_at, length-drop, length-append}
 use Rattle.std.proofs.lemmas.List.Edits.{between_none, between_more}
 use Rattle.std.proofs.lemmas.Result.{err_from_is_err_and}
-use Rattle.file.specs.Place.{Stands, Breaks, BreaksAt}
+use Rattle.file.specs.Place.{Stands, Breaks, BreaksAt, ByteAt}
 
 -- of two fronts of one list, one is the front of the other
 pub overlap : (xs ys u v : List ℕ) → xs ++ u ≡ ys ++ v →
@@ -130,11 +130,11 @@ stands_more file start next text byte after s inside e a =
       same = ap (λ (n : ℕ). between start n file) a ∙ between_more file start next 0 s.order inside ∙ ap (λ (t : List ℕ). t ++ get_or file next 0 ∷ []) s.same ∙ ap (λ (b : ℕ). text ++ b ∷ []) e;
     }
 
--- a place that a `?` passes on
-pub err_passed : {A : Type 0} (P : A → Type 0) (Q : ℕ → Type 0) (place : ℕ) (r : Result A ℕ) → IsErrAnd r (λ y. y ≡ place) → Q place → MatchResult r P Q
-err_passed {A = A} P Q place r e q =
+-- an error that a `?` passes on
+pub err_passed : {A E : Type 0} (P : A → Type 0) (Q : E → Type 0) (error : E) (r : Result A E) → IsErrAnd r (λ y. y ≡ error) → Q error → MatchResult r P Q
+err_passed {A = A} {E = E} P Q error r e q =
     let p = err_from_is_err_and r e in
-    subst (λ (x : Result A ℕ). MatchResult x P Q) (sym p.1) (subst Q (sym p.2) q)
+    subst (λ (x : Result A E). MatchResult x P Q) (sym p.1) (subst Q (sym p.2) q)
 
 -- a text stands where the file goes on with it
 pub stands_from_drop : (file : List ℕ) (start : ℕ) (text more : List ℕ) → start ≤ length file → drop start file ≡ text ++ more → Stands file start (start + length text) text
@@ -146,3 +146,8 @@ stands_from_drop file start text more within e =
       within = omega arith;
       same = ap (λ (n : ℕ). take n (drop start file)) k ∙ ap (λ (t : List ℕ). take (length text) t) e ∙ take_at text more (length text) refl;
     }
+
+-- the byte that stands at a position is what is read of it
+pub byte_read : (file : List ℕ) (at byte : ℕ) (r : Option ℕ) → MatchOption r (at ≡ length file) (λ other. ByteAt file at other) → ByteAt file at byte → r ≡ Some byte
+byte_read file at byte None e here = absurd (omega (arith, here.inside))
+byte_read file at byte (Some other) b here = ap Some (sym b.same ∙ here.same)

@@ -1,9 +1,9 @@
 -- Each sound item has a writing of its own: what stands at a place is the writing of one item at most. Assumes nothing.
-use Rattle.std.proofs.Common.{◌≡◌, ℕ, ◌-◌, cond, eqb, List, [], ◌∷◌, ◌++◌, map, length, get_or, take, drop, replicate, decimal, sym, refl, ap, ◌∙◌, subst, arith}
+use Rattle.std.proofs.Common.{◌≡◌, ℕ, cond, eqb, List, [], ◌∷◌, ◌++◌, map, get_or, drop, decimal, sym, refl, ap, ◌∙◌, subst, arith}
 use Rattle.std.proofs.lemmas.Fmt.{digits_value-decimal}
-use Rattle.std.proofs.lemmas.List.{append_assoc, append_cancel_left, length-map, length-take-le}
+use Rattle.std.proofs.lemmas.List.{append_assoc, append_cancel_left}
 use Rattle.std.proofs.lemmas.Bool.{cond-false, ne_eqb}
-use Rattle.prices.specs.Block.{no_block}
+use Rattle.prices.specs.Block.{block_list, listed}
 use Rattle.prices.specs.declared.block.Block.{Block}
 use Rattle.file.specs.Item.{Sound, BlockWords, key_of, fields, writing, block_text, rule_text}
 use Rattle.file.specs.Key.{key_text}
@@ -64,7 +64,7 @@ name_of text = cond (eqb (get_or text 0 0) 114) Running Largest
 recover : Key → List (List ℕ) → Item
 recover key.Hour fs = Hour (value_of (get_or fs 0 []))
 recover key.Asset fs = Asset (value_of (get_or fs 0 [])) (get_or (get_or fs 1 []) 0 0) (value_of (get_or fs 2 []))
-recover key.Offer fs = Offer (value_of (get_or fs 0 [])) (map block_of (drop 1 fs) ++ replicate (7 - length (drop 1 fs)) no_block) (length (drop 1 fs))
+recover key.Offer fs = Offer (value_of (get_or fs 0 [])) (block_list (map block_of (drop 1 fs)))
 recover key.Order fs = Order (value_of (get_or fs 0 [])) (value_of (get_or fs 1 [])) (value_of (get_or fs 2 []))
 recover key.Shed fs = Shed (value_of (get_or fs 0 [])) (value_of (get_or fs 1 []))
 recover key.Meter fs = Meter (value_of (get_or fs 0 [])) (value_of (get_or fs 1 []))
@@ -80,13 +80,7 @@ recovered : (item : Item) → Sound item → recover (key_of item) (fields item)
 unfolding recover
 recovered (Hour label) s = ap Hour (is_value label s)
 recovered (Asset asset letter owner) s = λ i. Asset (is_value asset s.0 i) letter (is_value owner s.2 i)
-recovered (Offer asset blocks count) s =
-    let k : length (map block_text (take count blocks)) ≡ count = length-map (take count blocks) block_text ∙ length-take-le count blocks (omega (arith, s.1.places, s.1.few)) in
-    let bs : map block_of (map block_text (take count blocks)) ≡ take count blocks = are_blocks (take count blocks) s.1.words in
-    let all : map block_of (map block_text (take count blocks)) ++ replicate (7 - length (map block_text (take count blocks))) no_block ≡ blocks =
-    ap (λ (t : List Block). t ++ replicate (7 - length (map block_text (take count blocks))) no_block) bs
-    ∙ ap (λ (n : ℕ). take count blocks ++ replicate (7 - n) no_block) k ∙ sym s.1.padded in
-    λ i. Offer (is_value asset s.0 i) (all i) (k i)
+recovered (Offer asset blocks) s = λ i. Offer (is_value asset s.0 i) ((ap block_list (are_blocks (listed blocks) s.1.words) ∙ sym s.1.padded) i)
 recovered (Order asset minute level) s = λ i. Order (is_value asset s.0 i) (is_value minute s.1 i) (is_value level s.2 i)
 recovered (Shed first end) s = λ i. Shed (is_value first s.0 i) (is_value end s.1 i)
 recovered (Meter asset kwh) s = λ i. Meter (is_value asset s.0 i) (is_value kwh s.1 i)
@@ -128,7 +122,7 @@ clean_name Running = (omega arith, (omega arith, (omega arith, (omega arith, (om
 clean_fields : (item : Item) → Sound item → CleanRow (fields item)
 clean_fields (Hour label) s = (clean_decimal label s, tt)
 clean_fields (Asset asset letter owner) s = (clean_decimal asset s.0, (let c = s.1 in ((omega arith, tt), (clean_decimal owner s.2, tt))))
-clean_fields (Offer asset blocks count) s = (clean_decimal asset s.0, clean_blocks (take count blocks) s.1.words)
+clean_fields (Offer asset blocks) s = (clean_decimal asset s.0, clean_blocks (listed blocks) s.1.words)
 clean_fields (Order asset minute level) s = (clean_decimal asset s.0, (clean_decimal minute s.1, (clean_decimal level s.2, tt)))
 clean_fields (Shed first end) s = (clean_decimal first s.0, (clean_decimal end s.1, tt))
 clean_fields (Meter asset kwh) s = (clean_decimal asset s.0, (clean_decimal kwh s.1, tt))
@@ -138,7 +132,7 @@ clean_fields (Rule name) s = (clean_name name, tt)
 some_field : (item : Item) → (f : List ℕ) × (fs : List (List ℕ)) × (fields item ≡ f ∷ fs)
 some_field (Hour label) = (_, _, refl)
 some_field (Asset asset letter owner) = (_, _, refl)
-some_field (Offer asset blocks count) = (_, _, refl)
+some_field (Offer asset blocks) = (_, _, refl)
 some_field (Order asset minute level) = (_, _, refl)
 some_field (Shed first end) = (_, _, refl)
 some_field (Meter asset kwh) = (_, _, refl)

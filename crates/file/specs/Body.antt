@@ -4,6 +4,7 @@ use Rattle.file.specs.Item.{Sound, key_of, fields}
 use Rattle.file.specs.Place.{Stands, BreaksAt}
 use Rattle.file.specs.Row.{row}
 use Rattle.file.specs.declared.body.Read.{Read}
+use Rattle.file.specs.declared.broken.BrokenForm.{BrokenForm}
 use Rattle.file.specs.declared.item.Item.{Item}
 use Rattle.file.specs.declared.key.Key.{Key}
 
@@ -21,5 +22,5 @@ pub record ReadBody (key : Key) (file : List ℕ) (start : ℕ) (read : Read) : 
   pub stands : Stands file start read.next (row (fields read.item))
 
 -- an item of the key was read, or the form of the key's lines breaks
-abbrev pub ReadsBody : Key → List ℕ → ℕ → Result Read ℕ → Type 0
-ReadsBody key file start r = MatchResult r (λ read. ReadBody key file start read) (λ place. BreaksAt (Body key) file start place)
+abbrev pub ReadsBody : Key → List ℕ → ℕ → Result Read BrokenForm → Type 0
+ReadsBody key file start r = MatchResult r (λ read. ReadBody key file start read) (λ broken. BreaksAt (Body key) file start broken.place)

@@ -2,10 +2,11 @@
 use Rattle.std.specs.Prelude.{◌≡◌, ℕ, Bool, true, ◌||◌, List, [], ◌∷◌, ◌++◌, decimal, ◌==◌}
 use Rattle.std.specs.Int.{IsInRange}
 use Rattle.file.specs.Number.{Word}
-use Rattle.file.specs.Place.{Stands}
+use Rattle.file.specs.Place.{StandsBefore}
 use Rattle.file.specs.declared.field.End.{End}
 use Rattle.file.specs.declared.field.End.TheVariants.{Colon, Comma, Line, CommaOrLine}
 use Rattle.file.specs.declared.field.Field.{Field}
+use Rattle.file.specs.declared.position.Position.{Position}
 
 -- whether a byte may end a field: a colon is 58, a comma 44 and a line feed 10
 abbrev pub allowed : End → ℕ → Bool
@@ -25,8 +26,10 @@ pub record NumberField (end : End) (text : List ℕ) : Type 0 where
 -- a number was read with the byte that ends it
 pub record ReadNumber (end : End) (file : List ℕ) (start : ℕ) (field : Field) : Type 0 where
   pub word : Word field.value
-  pub ends : allowed end field.end ≡ true
-  pub stands : Stands file start field.next (decimal field.value ++ field.end ∷ [])
+  pub byte : ℕ
+  pub ends : allowed end byte ≡ true
+  pub line : field.ends_line ≡ (byte == 10)
+  pub stands : StandsBefore file start field.next (decimal field.value ++ byte ∷ [])
 
 -- a letter is one byte from A to Z
 abbrev pub Capital : ℕ → Type 0
@@ -39,6 +42,6 @@ pub record LetterField (text : List ℕ) : Type 0 where
   pub same : text ≡ letter ∷ 44 ∷ []
 
 -- a letter was read with its comma
-pub record ReadLetter (file : List ℕ) (start letter next : ℕ) : Type 0 where
+pub record ReadLetter (file : List ℕ) (start letter : ℕ) (next : Position) : Type 0 where
   pub capital : Capital letter
-  pub stands : Stands file start next (letter ∷ 44 ∷ [])
+  pub stands : StandsBefore file start next (letter ∷ 44 ∷ [])

@@ -1,7 +1,8 @@
 -- What a line of the file says, and its one writing. Assumes nothing.
-use Rattle.std.specs.Prelude.{◌≡◌, ℕ, ◌-◌, ◌≤◌, List, [], ◌∷◌, ◌++◌, map, length, take, replicate, codes, decimal}
-use Rattle.prices.specs.Block.{no_block}
+use Rattle.std.specs.Prelude.{◌≡◌, ℕ, ◌≤◌, List, [], ◌∷◌, ◌++◌, map, codes, decimal}
+use Rattle.prices.specs.Block.{block_list, listed}
 use Rattle.prices.specs.declared.block.Block.{Block}
+use Rattle.prices.specs.declared.block.BlockList.{BlockList}
 use Rattle.file.specs.Field.{Capital}
 use Rattle.file.specs.Key.{key_text}
 use Rattle.file.specs.Number.{Word}
@@ -17,7 +18,7 @@ use Rattle.file.specs.declared.key.Key.TheVariants as key
 abbrev pub key_of : Item → Key
 key_of (Hour label) = key.Hour
 key_of (Asset asset letter owner) = key.Asset
-key_of (Offer asset blocks count) = key.Offer
+key_of (Offer asset blocks) = key.Offer
 key_of (Order asset minute level) = key.Order
 key_of (Shed first end) = key.Shed
 key_of (Meter asset kwh) = key.Meter
@@ -37,7 +38,7 @@ rule_text Running = codes "running"
 abbrev pub fields : Item → List (List ℕ)
 fields (Hour label) = decimal label ∷ []
 fields (Asset asset letter owner) = decimal asset ∷ (letter ∷ []) ∷ decimal owner ∷ []
-fields (Offer asset blocks count) = decimal asset ∷ map block_text (take count blocks)
+fields (Offer asset blocks) = decimal asset ∷ map block_text (listed blocks)
 fields (Order asset minute level) = decimal asset ∷ decimal minute ∷ decimal level ∷ []
 fields (Shed first end) = decimal first ∷ decimal end ∷ []
 fields (Meter asset kwh) = decimal asset ∷ decimal kwh ∷ []
@@ -53,19 +54,18 @@ abbrev pub BlockWords : List Block → Type 0
 BlockWords [] = Unit {0}
 BlockWords (block ∷ blocks) = Word block.size × Word block.price × BlockWords blocks
 
--- an offer has 1 to 7 blocks in an array of 7, with empty places behind them
-pub record SoundBlocks (blocks : List Block) (count : ℕ) : Type 0 where
-  pub places : length blocks ≡ 7
-  pub some : 1 ≤ count
-  pub few : count ≤ 7
-  pub words : BlockWords (take count blocks)
-  pub padded : blocks ≡ take count blocks ++ replicate (7 - count) no_block
+-- an offer has 1 to 7 blocks, with empty places behind them
+pub record SoundBlocks (blocks : BlockList) : Type 0 where
+  pub some : 1 ≤ blocks.count
+  pub few : blocks.count ≤ 7
+  pub words : BlockWords (listed blocks)
+  pub padded : blocks ≡ block_list (listed blocks)
 
 -- the numbers and letters of a line are in the range of the form
 abbrev pub Sound : Item → Type 0
 Sound (Hour label) = Word label
 Sound (Asset asset letter owner) = Word asset × Capital letter × Word owner
-Sound (Offer asset blocks count) = Word asset × SoundBlocks blocks count
+Sound (Offer asset blocks) = Word asset × SoundBlocks blocks
 Sound (Order asset minute level) = Word asset × Word minute × Word level
 Sound (Shed first end) = Word first × Word end
 Sound (Meter asset kwh) = Word asset × Word kwh

@@ -6,6 +6,7 @@ pub mod Key
 pub mod Line
 pub mod Literal
 pub mod Number
+pub mod Numbers
 pub mod Offer
 pub mod Place
 pub mod Row

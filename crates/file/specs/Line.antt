@@ -4,6 +4,7 @@ use Rattle.file.specs.Item.{Sound, key_of, writing}
 use Rattle.file.specs.Key.{follows, NoKey, FoundKey}
 use Rattle.file.specs.Place.{Stands, BreaksAt}
 use Rattle.file.specs.declared.body.Read.{Read}
+use Rattle.file.specs.declared.broken.BrokenForm.{BrokenForm}
 use Rattle.file.specs.declared.item.Item.{Item}
 use Rattle.file.specs.declared.key.Key.{Key}
 
@@ -33,10 +34,10 @@ abbrev pub BrokenLine : List ℕ → ℕ → Option Key → ℕ → Type 0
 BrokenLine file start last place = (NoKey file start last × (place ≡ 1)) ⊎ BrokenFields file start last place
 
 -- an allowed line was read, or the line is broken
-abbrev pub ReadsLine : List ℕ → ℕ → Option Key → Result Read ℕ → Type 0
-ReadsLine file start last r = MatchResult r (λ read. ReadLine file start last read) (λ place. BrokenLine file start last place)
+abbrev pub ReadsLine : List ℕ → ℕ → Option Key → Result Read BrokenForm → Type 0
+ReadsLine file start last r = MatchResult r (λ read. ReadLine file start last read) (λ broken. BrokenLine file start last broken.place)
 
 -- an allowed item whose writing stands here is what is read
-abbrev pub Exactly : List ℕ → ℕ → Option Key → Result Read ℕ → Type 0
+abbrev pub Exactly : List ℕ → ℕ → Option Key → Result Read BrokenForm → Type 0
 Exactly file start last r =
     (item : Item) (next : ℕ) → Sound item → follows last (key_of item) ≡ true → Stands file start next (writing item) → r ≡ Ok (record { item = item; next = next })

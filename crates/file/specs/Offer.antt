@@ -1,15 +1,15 @@
 -- The blocks of an offer. Assumes nothing.
-use Rattle.std.specs.Prelude.{◌≡◌, ℕ, ◌≤◌, true, cond, List, [], ◌∷◌, ◌++◌, map, length, take, nat_lt}
+use Rattle.std.specs.Prelude.{◌≡◌, ℕ, ◌≤◌, true, cond, List, [], ◌∷◌, ◌++◌, map, length, ◌==◌, nat_lt}
 use Rattle.prices.specs.declared.block.Block.{Block}
 use Rattle.file.specs.Field.{allowed}
-use Rattle.file.specs.Item.{block_text, BlockWords, SoundBlocks}
+use Rattle.file.specs.Item.{block_text, BlockWords}
 use Rattle.file.specs.Number.{Word}
-use Rattle.file.specs.Place.{Stands}
+use Rattle.file.specs.Place.{StandsBefore}
 use Rattle.file.specs.Row.{row}
 use Rattle.file.specs.declared.field.End.{End}
 use Rattle.file.specs.declared.field.End.TheVariants.{CommaOrLine, Line}
 use Rattle.file.specs.declared.offer.BlockRead.{BlockRead}
-use Rattle.file.specs.declared.offer.BlocksRead.{BlocksRead}
+use Rattle.file.specs.declared.position.Position.{Position}
 
 -- a block and a byte that may end it
 pub record BlockField (end : End) (text : List ℕ) : Type 0 where
@@ -24,8 +24,10 @@ pub record BlockField (end : End) (text : List ℕ) : Type 0 where
 pub record ReadBlock (end : End) (file : List ℕ) (start : ℕ) (read : BlockRead) : Type 0 where
   pub size : Word read.block.size
   pub price : Word read.block.price
-  pub ends : allowed end read.end ≡ true
-  pub stands : Stands file start read.next (block_text read.block ++ read.end ∷ [])
+  pub byte : ℕ
+  pub ends : allowed end byte ≡ true
+  pub line : read.ends_line ≡ (byte == 10)
+  pub stands : StandsBefore file start read.next (block_text read.block ++ byte ∷ [])
 
 -- the seventh block is the last
 abbrev pub block_end : ℕ → End
@@ -39,7 +41,9 @@ pub record BlockRow (room : ℕ) (text : List ℕ) : Type 0 where
   pub words : BlockWords blocks
   pub same : text ≡ row (map block_text blocks)
 
--- the blocks of an offer were read up to their line feed
-pub record ReadBlocks (file : List ℕ) (start : ℕ) (read : BlocksRead) : Type 0 where
-  pub sound : SoundBlocks read.held read.count
-  pub stands : Stands file start read.next (row (map block_text (take read.count read.held)))
+-- 1 to 7 blocks of an offer were read up to their line feed
+pub record ReadBlocks (file : List ℕ) (start : ℕ) (blocks : List Block) (next : Position) : Type 0 where
+  pub some : 1 ≤ length blocks
+  pub few : length blocks ≤ 7
+  pub words : BlockWords blocks
+  pub stands : StandsBefore file start next (row (map block_text blocks))

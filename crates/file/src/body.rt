@@ -1,9 +1,11 @@
-ghost use Rattle.std.specs.Prelude.{◌≤◌, length};
-ghost use Rattle.file.specs.Body.{ReadsBody};
+ghost use Rattle.std.specs.Prelude.{◌≡◌, ◌<◌, MatchResult};
+ghost use Rattle.file.specs.Numbers.{row_end, NumberRow};
 
-use crate::field::{End, read_field, read_letter};
+use crate::broken::BrokenForm;
+use crate::field::End;
 use crate::item::Item;
 use crate::key::Key;
+use crate::position::Position;
 
 // What a line says, and the place behind its line feed.
 #[derive(Clone, Copy)]
@@ -12,98 +14,111 @@ pub struct Read {
     pub next: usize,
 }
 
-// Each of these reads what stands behind a key, or gives the first place that breaks the form of the key's lines.
-
-pub fn read_hour(file: &[u8], start: usize) -> Result<Read, usize>
-    requires { start ≤ length file.now }
-    ensures { ReadsBody Key.Hour file.now start result }
+// What ends the number at a place of a row: a line feed behind the last one, else a comma.
+fn row_end(place: usize, count: usize) -> End
+    requires { place < count }
+    ensures { result ≡ row_end place count }
 {
-    let label = read_field(file, start, End::Line)?;
-    Ok(Read {
-        item: Item::Hour { label: label.value },
-        next: label.next,
-    })
+    if place + 1 < count {
+        End::Comma
+    } else {
+        End::Line
+    }
 }
 
-pub fn read_asset(file: &[u8], start: usize) -> Result<Read, usize>
-    requires { start ≤ length file.now }
-    ensures { ReadsBody Key.Asset file.now start result }
-{
-    let asset = read_field(file, start, End::Comma)?;
-    let (letter, owner_start) = read_letter(file, asset.next)?;
-    let owner = read_field(file, owner_start, End::Line)?;
-    Ok(Read {
-        item: Item::Asset {
-            asset: asset.value,
-            letter,
-            owner: owner.value,
-        },
-        next: owner.next,
-    })
-}
+impl<'a> Position<'a> {
+    ghost use Rattle.file.specs.Body.{ReadsBody};
+    ghost use Rattle.file.specs.Numbers.{ReadNumbers};
+    ghost use Rattle.file.specs.Place.{BreaksAt};
 
-pub fn read_order(file: &[u8], start: usize) -> Result<Read, usize>
-    requires { start ≤ length file.now }
-    ensures { ReadsBody Key.Order file.now start result }
-{
-    let asset = read_field(file, start, End::Comma)?;
-    let minute = read_field(file, asset.next, End::Comma)?;
-    let level = read_field(file, minute.next, End::Line)?;
-    Ok(Read {
-        item: Item::Order {
-            asset: asset.value,
-            minute: minute.value,
-            level: level.value,
-        },
-        next: level.next,
-    })
-}
+    // Reads so many numbers up to the line feed, or gives the place that breaks this form.
+    fn numbers<const N: usize>(self) -> Result<([u32; N], Position<'a>), BrokenForm>
+        ensures { MatchResult result (λ read. ReadNumbers N self.entry.file.now self.entry.at read.0 read.1) (λ broken. BreaksAt (NumberRow N) self.entry.file.now self.entry.at broken.place) }
+    {
+        let mut values = [0; N];
+        let mut next = self;
+        for (i, value) in values.iter_mut().enumerate() {
+            let field = next.field(row_end(i, N))?;
+            *value = field.value;
+            next = field.next;
+        }
+        Ok((values, next))
+    }
 
-pub fn read_shed(file: &[u8], start: usize) -> Result<Read, usize>
-    requires { start ≤ length file.now }
-    ensures { ReadsBody Key.Shed file.now start result }
-{
-    let first = read_field(file, start, End::Comma)?;
-    let end = read_field(file, first.next, End::Line)?;
-    Ok(Read {
-        item: Item::Shed {
-            first: first.value,
-            end: end.value,
-        },
-        next: end.next,
-    })
-}
+    // Each of these reads what stands behind a key, or gives the first place that breaks the form of the key's lines.
 
-pub fn read_meter(file: &[u8], start: usize) -> Result<Read, usize>
-    requires { start ≤ length file.now }
-    ensures { ReadsBody Key.Meter file.now start result }
-{
-    let asset = read_field(file, start, End::Comma)?;
-    let kwh = read_field(file, asset.next, End::Line)?;
-    Ok(Read {
-        item: Item::Meter {
-            asset: asset.value,
-            kwh: kwh.value,
-        },
-        next: kwh.next,
-    })
-}
+    pub fn hour(self) -> Result<Read, BrokenForm>
+        ensures { ReadsBody Key.Hour self.entry.file.now self.entry.at result }
+    {
+        let ([label], next) = self.numbers::<1>()?;
+        Ok(Read {
+            item: Item::Hour { label },
+            next: next.at,
+        })
+    }
 
-pub fn read_instruct(file: &[u8], start: usize) -> Result<Read, usize>
-    requires { start ≤ length file.now }
-    ensures { ReadsBody Key.Instruct file.now start result }
-{
-    let number = read_field(file, start, End::Comma)?;
-    let source = read_field(file, number.next, End::Comma)?;
-    let sink = read_field(file, source.next, End::Comma)?;
-    let kwh = read_field(file, sink.next, End::Line)?;
-    Ok(Read {
-        item: Item::Instruct {
-            number: number.value,
-            source: source.value,
-            sink: sink.value,
-            kwh: kwh.value,
-        },
-        next: kwh.next,
-    })
+    pub fn asset(self) -> Result<Read, BrokenForm>
+        ensures { ReadsBody Key.Asset self.entry.file.now self.entry.at result }
+    {
+        let asset = self.field(End::Comma)?;
+        let (letter, next) = asset.next.letter()?;
+        let owner = next.field(End::Line)?;
+        Ok(Read {
+            item: Item::Asset {
+                asset: asset.value,
+                letter,
+                owner: owner.value,
+            },
+            next: owner.next.at,
+        })
+    }
+
+    pub fn order(self) -> Result<Read, BrokenForm>
+        ensures { ReadsBody Key.Order self.entry.file.now self.entry.at result }
+    {
+        let ([asset, minute, level], next) = self.numbers::<3>()?;
+        Ok(Read {
+            item: Item::Order {
+                asset,
+                minute,
+                level,
+            },
+            next: next.at,
+        })
+    }
+
+    pub fn shed(self) -> Result<Read, BrokenForm>
+        ensures { ReadsBody Key.Shed self.entry.file.now self.entry.at result }
+    {
+        let ([first, end], next) = self.numbers::<2>()?;
+        Ok(Read {
+            item: Item::Shed { first, end },
+            next: next.at,
+        })
+    }
+
+    pub fn meter(self) -> Result<Read, BrokenForm>
+        ensures { ReadsBody Key.Meter self.entry.file.now self.entry.at result }
+    {
+        let ([asset, kwh], next) = self.numbers::<2>()?;
+        Ok(Read {
+            item: Item::Meter { asset, kwh },
+            next: next.at,
+        })
+    }
+
+    pub fn instruct(self) -> Result<Read, BrokenForm>
+        ensures { ReadsBody Key.Instruct self.entry.file.now self.entry.at result }
+    {
+        let ([number, source, sink, kwh], next) = self.numbers::<4>()?;
+        Ok(Read {
+            item: Item::Instruct {
+                number,
+                source,
+                sink,
+                kwh,
+            },
+            next: next.at,
+        })
+    }
 }

@@ -1,8 +1,8 @@
-ghost use Rattle.std.specs.Prelude.{◌≡◌, ◌≤◌, length, Decides, MatchResult};
-ghost use Rattle.file.specs.Field.{allowed, NumberField, ReadNumber, Capital, LetterField, ReadLetter};
-ghost use Rattle.file.specs.Place.{BreaksAt};
+ghost use Rattle.std.specs.Prelude.{◌≡◌, MatchResult};
+ghost use Rattle.file.specs.Field.{allowed};
 
-use crate::number::read_number;
+use crate::broken::BrokenForm;
+use crate::position::Position;
 
 // The bytes that may end a field.
 #[derive(Clone, Copy)]
@@ -26,52 +26,50 @@ impl End {
     }
 }
 
-// A number of a line, the byte that ends it, and the place behind that byte.
+// A number of a line, whether a line feed ends it, and the position behind the byte that ends it.
 #[derive(Clone, Copy)]
-pub struct Field {
+pub struct Field<'a> {
     pub value: u32,
-    pub end: u8,
-    pub next: usize,
+    pub ends_line: bool,
+    pub next: Position<'a>,
 }
 
-// Reads a number and the byte that ends it, or gives the place that breaks this form.
-pub fn read_field(file: &[u8], start: usize, end: End) -> Result<Field, usize>
-    requires { start ≤ length file.now }
-    ensures { MatchResult result (λ field. ReadNumber end file.now start field) (λ place. BreaksAt (NumberField end) file.now start place) }
-{
-    let number = read_number(file, start);
-    let next = number.next;
-    if start < next && next < file.len() && end.allows(file[next]) {
-        return Ok(Field {
-            value: number.value,
-            end: file[next],
-            next: next + 1,
-        });
-    }
-    Err(next)
-}
+impl<'a> Position<'a> {
+    ghost use Rattle.file.specs.Field.{NumberField, ReadNumber, LetterField, ReadLetter};
+    ghost use Rattle.file.specs.Place.{BreaksAt};
 
-// Whether a byte is a letter from A to Z.
-fn is_capital(byte: u8) -> bool
-    ensures { Decides result (Capital byte) }
-{
-    match byte {
-        b'A'..=b'Z' => true,
-        _ => false,
+    // Reads a number and the byte that ends it, or gives the place that breaks this form.
+    pub fn field(self, end: End) -> Result<Field<'a>, BrokenForm>
+        ensures { MatchResult result (λ field. ReadNumber end self.entry.file.now self.entry.at field) (λ broken. BreaksAt (NumberField end) self.entry.file.now self.entry.at broken.place) }
+    {
+        let number = self.number();
+        let next = number.next;
+        if self.at < next.at
+            && let Some(byte) = next.byte()
+            && end.allows(byte)
+        {
+            return Ok(Field {
+                value: number.value,
+                ends_line: byte == b'\n',
+                next: next.behind(1),
+            });
+        }
+        Err(next.broken())
     }
-}
 
-// Reads a letter and the comma that ends it, or gives the place that breaks this form.
-pub fn read_letter(file: &[u8], start: usize) -> Result<(char, usize), usize>
-    requires { start ≤ length file.now }
-    ensures { MatchResult result (λ read. ReadLetter file.now start read.0 read.1) (λ place. BreaksAt LetterField file.now start place) }
-{
-    if start >= file.len() || !is_capital(file[start]) {
-        return Err(start);
+    // Reads a letter from A to Z and the comma that ends it, or gives the place that breaks this form.
+    pub fn letter(self) -> Result<(char, Position<'a>), BrokenForm>
+        ensures { MatchResult result (λ read. ReadLetter self.entry.file.now self.entry.at read.0 read.1) (λ broken. BreaksAt LetterField self.entry.file.now self.entry.at broken.place) }
+    {
+        if let Some(letter) = self.byte()
+            && letter.is_ascii_uppercase()
+        {
+            let comma = self.behind(1);
+            if comma.has(b',') {
+                return Ok((char::from(letter), comma.behind(1)));
+            }
+            return Err(comma.broken());
+        }
+        Err(self.broken())
     }
-    let comma = start + 1;
-    if comma >= file.len() || file[comma] != b',' {
-        return Err(comma);
-    }
-    Ok((char::from(file[start]), comma + 1))
 }

@@ -2,7 +2,7 @@ ghost use Rattle.std.specs.Prelude.{◌≡◌};
 ghost use Rattle.file.specs.Item.{key_of};
 
 use crate::key::Key;
-use prices::Block;
+use prices::BlockList;
 
 // The apportioning rule that a file names for the draw.
 #[derive(Clone, Copy, PartialEq, Eq, Debug)]
@@ -22,11 +22,9 @@ pub enum Item {
         letter: char,
         owner: u32,
     },
-    // The blocks are the first `count` of the array.
     Offer {
         asset: u32,
-        blocks: [Block; 7],
-        count: usize,
+        blocks: BlockList,
     },
     Order {
         asset: u32,

@@ -1,10 +1,10 @@
-ghost use Rattle.std.specs.Prelude.{◌≡◌, ◌≤◌, length, Decides, MatchOption};
+ghost use Rattle.std.specs.Prelude.{◌≡◌, Decides, MatchOption};
 ghost use Rattle.file.specs.Key.{follows, key_text, NoKey, FoundKey};
 
-use crate::literal::agreement;
+use crate::position::Position;
 
-// What the lines of a file begin with.
-#[derive(Clone, Copy, PartialEq, Eq, Debug)]
+// What the lines of a file begin with, in the order of their lines.
+#[derive(Clone, Copy, PartialEq, Eq, PartialOrd, Ord, Debug)]
 pub enum Key {
     Hour,
     Asset,
@@ -52,29 +52,24 @@ impl Key {
         match last {
             None => self == Key::Hour,
             Some(Key::Rule) => false,
-            Some(last) => self != Key::Hour && last as u8 <= self as u8,
+            Some(last) => self != Key::Hour && last <= self,
         }
     }
 }
 
-// Whether an allowed key stands at a place with its equals sign.
-fn key_stands(key: Key, file: &[u8], start: usize, last: Option<Key>) -> bool
-    requires { start ≤ length file.now }
-    ensures { Decides result (FoundKey file.now start last key) }
-{
-    let text = key.text();
-    key.follows(last) && agreement(file, start, text) == text.len()
-}
-
-// The allowed key that stands at a place with its equals sign.
-pub fn read_key(file: &[u8], start: usize, last: Option<Key>) -> Option<Key>
-    requires { start ≤ length file.now }
-    ensures { MatchOption result (NoKey file.now start last) (λ key. FoundKey file.now start last key) }
-{
-    for key in KEYS {
-        if key_stands(key, file, start, last) {
-            return Some(key);
-        }
+impl<'a> Position<'a> {
+    // Whether an allowed key stands here with its equals sign.
+    fn has_key(self, key: Key, last: Option<Key>) -> bool
+        ensures { Decides result (FoundKey self.entry.file.now self.entry.at last key) }
+    {
+        let text = key.text();
+        key.follows(last) && self.agreement(text) == text.len()
     }
-    None
+
+    // The allowed key that stands here with its equals sign.
+    pub fn key(self, last: Option<Key>) -> Option<Key>
+        ensures { MatchOption result (NoKey self.entry.file.now self.entry.at last) (λ key. FoundKey self.entry.file.now self.entry.at last key) }
+    {
+        KEYS.into_iter().find(|key| self.has_key(*key, last))
+    }
 }

@@ -2,6 +2,7 @@
 #![tactic(auto)]
 
 mod body;
+mod broken;
 mod field;
 mod figure;
 mod item;
@@ -10,6 +11,7 @@ mod line;
 mod literal;
 mod number;
 mod offer;
+mod position;
 mod print;
 mod rule;
 mod size;
@@ -18,6 +20,7 @@ mod statement;
 mod tests;
 
 pub use body::Read;
+pub use broken::BrokenForm;
 pub use item::{Item, RuleName};
 pub use key::Key;
 pub use line::read_line;

@@ -1,11 +1,13 @@
-ghost use Rattle.std.specs.Prelude.{◌≡◌, ◌≤◌, length, MatchOption};
+ghost use Rattle.std.specs.Prelude.{◌≡◌, MatchOption};
 ghost use Rattle.file.specs.Number.{Started, Goes, Ends, Longest};
 
-// The longest number that stands at a place of the file, and the place behind it.
+use crate::position::Position;
+
+// The longest number that stands at a position, and the position behind it.
 #[derive(Clone, Copy)]
-pub struct Number {
+pub struct Number<'a> {
     pub value: u32,
-    pub next: usize,
+    pub next: Position<'a>,
 }
 
 // The number that a further byte makes; none if no number goes on so.
@@ -27,19 +29,26 @@ fn next_value(value: u32, digits: usize, byte: u8) -> Option<u32>
     }
 }
 
-// Reads the longest number at a place.
-pub fn read_number(file: &[u8], start: usize) -> Number
-    requires { start ≤ length file.now }
-    ensures { Longest file.now start result.value result.next }
-{
-    let mut value = 0;
-    let mut next = start;
-    while next < file.len() {
-        let Some(more) = next_value(value, next - start, file[next]) else {
-            break;
-        };
-        value = more;
-        next += 1;
+impl<'a> Position<'a> {
+    // Reads the longest number that stands here.
+    pub fn number(self) -> Number<'a>
+        ensures longest { Longest self.entry.file.now self.entry.at result.value result.next.at }
+        ensures same { result.next.file.now ≡ self.entry.file.now }
+    {
+        let rest = self.rest();
+        let mut value = 0;
+        for (digits, byte) in rest.iter().enumerate() {
+            let Some(more) = next_value(value, digits, *byte) else {
+                return Number {
+                    value,
+                    next: self.behind(digits),
+                };
+            };
+            value = more;
+        }
+        Number {
+            value,
+            next: self.behind(rest.len()),
+        }
     }
-    Number { value, next }
 }

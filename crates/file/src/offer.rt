@@ -1,48 +1,22 @@
 ghost use Rattle.std.specs.Prelude.{◌≡◌, ◌≤◌, length, MatchResult};
-ghost use Rattle.file.specs.Body.{ReadsBody};
-ghost use Rattle.file.specs.Offer.{BlockField, ReadBlock, block_end, BlockRow, ReadBlocks};
-ghost use Rattle.file.specs.Place.{BreaksAt};
+ghost use Rattle.prices.specs.Block.{block_list};
+ghost use Rattle.file.specs.Offer.{BlockField, block_end, BlockRow};
 
 use crate::body::Read;
-use crate::field::{End, read_field};
+use crate::broken::BrokenForm;
+use crate::field::End;
 use crate::item::Item;
 use crate::key::Key;
-use prices::Block;
+use crate::position::Position;
+use arrayvec::ArrayVec;
+use prices::{Block, BlockList};
 
-// A block of an offer, the byte that ends it, and the place behind that byte.
+// A block of an offer, whether a line feed ends it, and the position behind the byte that ends it.
 #[derive(Clone, Copy)]
-struct BlockRead {
+struct BlockRead<'a> {
     block: Block,
-    end: u8,
-    next: usize,
-}
-
-// The blocks of an offer, the first `count` held, and the place behind their line feed.
-#[derive(Clone, Copy)]
-struct BlocksRead {
-    held: [Block; 7],
-    count: usize,
-    next: usize,
-}
-
-// What stands in the array behind the blocks.
-const NO_BLOCK: Block = Block { size: 0, price: 0 };
-
-// Reads a block and the byte that ends it, or gives the place that breaks this form.
-fn read_block(file: &[u8], start: usize, end: End) -> Result<BlockRead, usize>
-    requires { start ≤ length file.now }
-    ensures { MatchResult result (λ read. ReadBlock end file.now start read) (λ place. BreaksAt (BlockField end) file.now start place) }
-{
-    let size = read_field(file, start, End::Colon)?;
-    let price = read_field(file, size.next, end)?;
-    Ok(BlockRead {
-        block: Block {
-            size: size.value,
-            price: price.value,
-        },
-        end: price.end,
-        next: price.next,
-    })
+    ends_line: bool,
+    next: Position<'a>,
 }
 
 // What may end a block behind so many others: the seventh block is the last.
@@ -56,39 +30,64 @@ fn block_end(before: usize) -> End
     }
 }
 
-// Reads 1 to 7 blocks up to the line feed, or gives the place that breaks this form.
-fn read_blocks(file: &[u8], start: usize) -> Result<BlocksRead, usize>
-    requires { start ≤ length file.now }
-    ensures { MatchResult result (λ read. ReadBlocks file.now start read) (λ place. BreaksAt (BlockRow 7) file.now start place) }
+// Between 1 and 7 blocks as a list.
+fn as_list(blocks: &[Block]) -> BlockList
+    requires some { 1 ≤ length blocks.now }
+    requires few { length blocks.now ≤ 7 }
+    ensures { result ≡ block_list blocks.now }
 {
-    let mut held = [NO_BLOCK; 7];
-    let mut count = 0;
-    let mut next = start;
-    loop {
-        let read = read_block(file, next, block_end(count))?;
-        held[count] = read.block;
-        count += 1;
-        next = read.next;
-        if read.end == b'\n' {
-            return Ok(BlocksRead { held, count, next });
-        }
-    }
+    BlockList::new(blocks).unwrap()
 }
 
-// Reads the asset and the blocks of an offer, or gives the place that breaks this form.
-pub fn read_offer(file: &[u8], start: usize) -> Result<Read, usize>
-    requires { start ≤ length file.now }
-    ensures { ReadsBody Key.Offer file.now start result }
-{
-    let asset = read_field(file, start, End::Comma)?;
-    let read = read_blocks(file, asset.next)?;
-    let blocks = read.held;
-    Ok(Read {
-        item: Item::Offer {
-            asset: asset.value,
-            blocks,
-            count: read.count,
-        },
-        next: read.next,
-    })
+impl<'a> Position<'a> {
+    ghost use Rattle.file.specs.Body.{ReadsBody};
+    ghost use Rattle.file.specs.Offer.{ReadBlock, ReadBlocks};
+    ghost use Rattle.file.specs.Place.{BreaksAt};
+
+    // Reads a block and the byte that ends it, or gives the place that breaks this form.
+    fn block(self, end: End) -> Result<BlockRead<'a>, BrokenForm>
+        ensures { MatchResult result (λ read. ReadBlock end self.entry.file.now self.entry.at read) (λ broken. BreaksAt (BlockField end) self.entry.file.now self.entry.at broken.place) }
+    {
+        let size = self.field(End::Colon)?;
+        let price = size.next.field(end)?;
+        Ok(BlockRead {
+            block: Block {
+                size: size.value,
+                price: price.value,
+            },
+            ends_line: price.ends_line,
+            next: price.next,
+        })
+    }
+
+    // Reads 1 to 7 blocks up to the line feed, or gives the place that breaks this form.
+    fn blocks(self) -> Result<(ArrayVec<Block, 7>, Position<'a>), BrokenForm>
+        ensures { MatchResult result (λ read. ReadBlocks self.entry.file.now self.entry.at read.0.items read.1) (λ broken. BreaksAt (BlockRow 7) self.entry.file.now self.entry.at broken.place) }
+    {
+        let mut blocks = ArrayVec::new();
+        let mut next = self;
+        loop {
+            let read = next.block(block_end(blocks.len()))?;
+            blocks.push(read.block);
+            next = read.next;
+            if read.ends_line {
+                return Ok((blocks, next));
+            }
+        }
+    }
+
+    // Reads the asset and the blocks of an offer, or gives the place that breaks this form.
+    pub fn offer(self) -> Result<Read, BrokenForm>
+        ensures { ReadsBody Key.Offer self.entry.file.now self.entry.at result }
+    {
+        let asset = self.field(End::Comma)?;
+        let (blocks, next) = asset.next.blocks()?;
+        Ok(Read {
+            item: Item::Offer {
+                asset: asset.value,
+                blocks: as_list(blocks.as_slice()),
+            },
+            next: next.at,
+        })
+    }
 }

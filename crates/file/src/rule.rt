@@ -1,12 +1,12 @@
-ghost use Rattle.std.specs.Prelude.{◌≡◌, ◌≤◌, [], ◌∷◌, ◌++◌, length};
-ghost use Rattle.file.specs.Body.{ReadsBody};
+ghost use Rattle.std.specs.Prelude.{◌≡◌, [], ◌∷◌, ◌++◌};
 ghost use Rattle.file.specs.Item.{rule_text};
 ghost use Rattle.file.specs.Rule.{OnlyName};
 
 use crate::body::Read;
+use crate::broken::BrokenForm;
 use crate::item::{Item, RuleName};
 use crate::key::Key;
-use crate::literal::agreement;
+use crate::position::Position;
 
 // The bytes of a rule's name with the line feed behind it.
 fn name_line(name: RuleName) -> &'static [u8]
@@ -18,30 +18,34 @@ fn name_line(name: RuleName) -> &'static [u8]
     }
 }
 
-// The only rule name that can begin with the byte at a place.
-fn name_at(file: &[u8], start: usize) -> RuleName
-    ensures { OnlyName file.now start result }
-{
-    if start < file.len() && file[start] == b'r' {
-        RuleName::Running
-    } else {
-        RuleName::Largest
-    }
-}
+impl<'a> Position<'a> {
+    ghost use Rattle.file.specs.Body.{ReadsBody};
 
-// Reads the name of a rule, or gives the first place that breaks both names.
-pub fn read_rule(file: &[u8], start: usize) -> Result<Read, usize>
-    requires { start ≤ length file.now }
-    ensures { ReadsBody Key.Rule file.now start result }
-{
-    let name = name_at(file, start);
-    let text = name_line(name);
-    let count = agreement(file, start, text);
-    if count < text.len() {
-        return Err(start + count);
+    // The only rule name that can begin with the byte here.
+    fn rule_name(self) -> RuleName
+        ensures { OnlyName self.entry.file.now self.entry.at result }
+    {
+        if self.has(b'r') {
+            RuleName::Running
+        } else {
+            RuleName::Largest
+        }
     }
-    Ok(Read {
-        item: Item::Rule { name },
-        next: start + count,
-    })
+
+    // Reads the name of a rule, or gives the first place that breaks both names.
+    pub fn rule(self) -> Result<Read, BrokenForm>
+        ensures { ReadsBody Key.Rule self.entry.file.now self.entry.at result }
+    {
+        let name = self.rule_name();
+        let text = name_line(name);
+        let count = self.agreement(text);
+        let end = self.behind(count);
+        if count < text.len() {
+            return Err(end.broken());
+        }
+        Ok(Read {
+            item: Item::Rule { name },
+            next: end.at,
+        })
+    }
 }

@@ -8,7 +8,7 @@ use std::test::Fail;
 fn place(line: &[u8], last: Option<Key>) -> usize {
     match read_line(line, 0, last) {
         Ok(_) => 0,
-        Err(place) => place,
+        Err(broken) => broken.place,
     }
 }
 
@@ -53,8 +53,8 @@ fn an_offer_is_read(rt: HostRuntime) -> Result<(), Fail> {
     let read = read_line(b"offer=2,50:3000,50:9000\n", 0, Some(Key::Asset))?;
     assert_eq!(rt; read.next, 24);
     match read.item {
-        Item::Offer { asset, count, .. } => {
-            assert!(rt; asset == 2 && count == 2);
+        Item::Offer { asset, blocks } => {
+            assert!(rt; asset == 2 && blocks.as_slice().len() == 2);
             Ok(())
         },
         _ => Err(Fail::new("no offer")),

@@ -58,7 +58,7 @@ late last after item allowed =
     at : (i : Item) → order_of last ≤ order_of (key_of i) → EntryLine i
     at (Hour label) le = absurd (omega arith)
     at (Asset asset letter owner) le = absurd (omega arith)
-    at (Offer asset blocks count) le = absurd (omega arith)
+    at (Offer asset blocks) le = absurd (omega arith)
     at (Order asset minute level) le = absurd (omega arith)
     at (Shed first end) le = absurd (omega arith)
     at (Meter asset kwh) le = tt
@@ -156,7 +156,7 @@ module _ (file : List ℕ) (few : length file ≤ 32768) (b after : Book) (curso
       EntryStep file after cursor (beyond cursor (record { item = item; next = next })) rule
   entered_on rule (Hour label) next r done = absurd done
   entered_on rule (Asset asset letter owner) next r done = absurd done
-  entered_on rule (Offer asset blocks count) next r done = absurd done
+  entered_on rule (Offer asset blocks) next r done = absurd done
   entered_on rule (Order asset minute level) next r done = absurd done
   entered_on rule (Shed first end) next r done = absurd done
   entered_on rule (Meter asset kwh) next r done = at done.said done.made done.carried
@@ -185,7 +185,7 @@ module _ (file : List ℕ) (few : length file ≤ 32768) (b after : Book) (curso
       FirstFault file (record { line = Some cursor.line; fault = fault })
   refused_on fault (Hour label) next r done = absurd done
   refused_on fault (Asset asset letter owner) next r done = absurd done
-  refused_on fault (Offer asset blocks count) next r done = absurd done
+  refused_on fault (Offer asset blocks) next r done = absurd done
   refused_on fault (Order asset minute level) next r done = absurd done
   refused_on fault (Shed first end) next r done = absurd done
   refused_on fault (Meter asset kwh) next r done = at done.said done.made done.carried

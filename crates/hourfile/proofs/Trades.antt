@@ -1,13 +1,14 @@
 -- A trading line behind others: its call is accepted and the hour goes on, or it is the first fault. Assumes nothing.
 use Rattle.std.proofs.Common.{◌≡◌, ℕ, ◌≤◌, true, false, ◌&&◌, ltb, leb, List, ◌∷◌, length, take, Some, None, Ok, Err, Result, sym, refl, ap, ◌∙◌, subst, arith}
 use Rattle.std.proofs.lemmas.Bool.{and_parts, both_ways}
-use Rattle.prices.specs.declared.block.Block.{Block}
 use Rattle.hour.specs.declared.fault.Fault as hour
 use Rattle.hour.specs.declared.market.Market.{Market}
 use Rattle.hour.specs.Reason.{answer}
 use Rattle.hour.specs.Market.{enrol_reasons, offer_reasons, order_reasons}
 use Rattle.ledger.specs.Trade.{Trade, enrol, offer, order, shedding, LivedTrade, TradeMade, Traded, trades_of, market_of}
 use Rattle.ledger.proofs.Agreement.{market_agrees}
+use Rattle.prices.specs.Block.{listed}
+use Rattle.prices.specs.declared.block.BlockList.{BlockList}
 use Rattle.file.specs.Item.{key_of}
 use Rattle.file.specs.Key.{order_of, follows}
 use Rattle.file.specs.Line.{ReadLine}
@@ -49,14 +50,14 @@ asset_item asset letter owner = record {
   says = λ before m after said e made. subst (λ x. said ≡ answer (enrol_reasons x asset letter owner)) (sym e) made.answer;
 }
 
-offer_item : (asset : ℕ) (blocks : List Block) (count : ℕ) → TradeItem (Offer asset blocks count) (offer asset (take count blocks))
-offer_item asset blocks count = record {
+offer_item : (asset : ℕ) (blocks : BlockList) → TradeItem (Offer asset blocks) (offer asset (listed blocks))
+offer_item asset blocks = record {
   trades = λ before. refl;
   label = λ before. refl;
   calls = λ before. refl;
   early = refl;
   keeps = λ m after said made. made.others.label;
-  says = λ before m after said e made. subst (λ x. said ≡ answer (offer_reasons x asset (take count blocks))) (sym e) made.answer;
+  says = λ before m after said e made. subst (λ x. said ≡ answer (offer_reasons x asset (listed blocks))) (sym e) made.answer;
 }
 
 order_item : (asset minute level : ℕ) → TradeItem (Order asset minute level) (order asset minute level)
@@ -117,7 +118,7 @@ module _ (file : List ℕ) (few : length file ≤ 32768) (m after : Market) (cur
   pub made_on : (item : Item) (next : ℕ) → ReadLine file cursor.start cursor.last (record { item = item; next = next }) → call.Traded item m (Some (Ok tt)) after → Trading file after (beyond cursor (record { item = item; next = next }))
   made_on (Hour label) next r done = absurd done
   made_on (Asset asset letter owner) next r done = made_by (record { item = Asset asset letter owner; next = next }) r _ (asset_item asset letter owner) done
-  made_on (Offer asset blocks count) next r done = made_by (record { item = Offer asset blocks count; next = next }) r _ (offer_item asset blocks count) done
+  made_on (Offer asset blocks) next r done = made_by (record { item = Offer asset blocks; next = next }) r _ (offer_item asset blocks) done
   made_on (Order asset minute level) next r done = made_by (record { item = Order asset minute level; next = next }) r _ (order_item asset minute level) done
   made_on (Shed first end) next r done = made_by (record { item = Shed first end; next = next }) r _ (shed_item first end) done
   made_on (Meter asset kwh) next r done = absurd done
@@ -127,7 +128,7 @@ module _ (file : List ℕ) (few : length file ≤ 32768) (m after : Market) (cur
   pub refused_on : (fault : hour.Fault) (item : Item) (next : ℕ) → ReadLine file cursor.start cursor.last (record { item = item; next = next }) → call.Traded item m (Some (Err fault)) after → FirstFault file (record { line = Some cursor.line; fault = of_file.Hour fault })
   refused_on fault (Hour label) next r done = absurd done
   refused_on fault (Asset asset letter owner) next r done = refused_by (record { item = Asset asset letter owner; next = next }) r fault _ (asset_item asset letter owner) done
-  refused_on fault (Offer asset blocks count) next r done = refused_by (record { item = Offer asset blocks count; next = next }) r fault _ (offer_item asset blocks count) done
+  refused_on fault (Offer asset blocks) next r done = refused_by (record { item = Offer asset blocks; next = next }) r fault _ (offer_item asset blocks) done
   refused_on fault (Order asset minute level) next r done = refused_by (record { item = Order asset minute level; next = next }) r fault _ (order_item asset minute level) done
   refused_on fault (Shed first end) next r done = refused_by (record { item = Shed first end; next = next }) r fault _ (shed_item first end) done
   refused_on fault (Meter asset kwh) next r done = absurd done
@@ -138,7 +139,7 @@ module _ (file : List ℕ) (few : length file ≤ 32768) (m after : Market) (cur
   entry_at : (item : Item) (next : ℕ) → ReadLine file cursor.start cursor.last (record { item = item; next = next }) → call.Traded item m None after → (after ≡ m) × EntryLine item
   entry_at (Hour label) next r done = absurd (no_hour (allowed_here file t.items cursor t.through.behind (record { item = Hour label; next = next }) r))
   entry_at (Asset asset letter owner) next r done = absurd done
-  entry_at (Offer asset blocks count) next r done = absurd done
+  entry_at (Offer asset blocks) next r done = absurd done
   entry_at (Order asset minute level) next r done = absurd done
   entry_at (Shed first end) next r done = absurd done
   entry_at (Meter asset kwh) next r done = (done, tt)

@@ -92,7 +92,7 @@ module _ (file : List ℕ) (start : ℕ) (items : List Item) where
   -- a line that can be read is not ill formed
   not_broken : (place : ℕ) (read : Read) → ReadLine file start (last_key items) read → IllFormedLine file start items place → ⊥
   not_broken place read r b =
-      let e = exactly file start (last_key items) (Err place) b.broken read.item read.next r.sound r.allowed r.stands in
+      let e = exactly file start (last_key items) (Err (record { place = place })) b.broken read.item read.next r.sound r.allowed r.stands in
       let z : ◌≡◌ {A = ℕ} 0 1 = cc in
       absurd (omega arith)
 

@@ -1,5 +1,5 @@
 -- What the call of a line answers, by the contract of the call that is made. Assumes nothing.
-use Rattle.std.specs.Prelude.{◌≡◌, ℕ, ◌≤◌, true, take, is_some, Some, None, Ok, Err, Option, Result}
+use Rattle.std.specs.Prelude.{◌≡◌, ℕ, ◌≤◌, true, is_some, Some, None, Ok, Err, Option, Result}
 use Rattle.hour.specs.declared.fault.Fault as hour
 use Rattle.hour.specs.declared.market.Market.{Market}
 use Rattle.hour.specs.declared.book.Book.{Book}
@@ -7,6 +7,7 @@ use Rattle.hour.specs.Market.{asset_at, record_at}
 use Rattle.hour.specs.Book.{owner_of}
 use Rattle.hour.specs.Priced.{Metering, Proposal, Confirmation}
 use Rattle.ledger.specs.Trade.{Trade, enrol, offer, order, shedding, TradeMade}
+use Rattle.prices.specs.Block.{listed}
 use Rattle.file.specs.declared.item.Item.{Item}
 use Rattle.file.specs.declared.item.Item.TheVariants.{Hour, Asset, Offer, Order, Shed, Meter, Instruct, Rule}
 use Rattle.file.specs.declared.item.RuleName.{RuleName}
@@ -36,7 +37,7 @@ NoTrade before None after = after ≡ before
 abbrev pub Traded : Item → Market → Option (Result (Unit {0}) hour.Fault) → Market → Type 0
 Traded (Hour label) before r after = NoTrade before r after
 Traded (Asset asset letter owner) before r after = MadeTrade (enrol asset letter owner) before r after
-Traded (Offer asset blocks count) before r after = MadeTrade (offer asset (take count blocks)) before r after
+Traded (Offer asset blocks) before r after = MadeTrade (offer asset (listed blocks)) before r after
 Traded (Order asset minute level) before r after = MadeTrade (order asset minute level) before r after
 Traded (Shed first end) before r after = MadeTrade (shedding first end) before r after
 Traded (Meter asset kwh) before r after = NoTrade before r after
@@ -58,7 +59,7 @@ Instructed before number source sink kwh (Err fault) after = (inner : hour.Fault
 abbrev pub EntryLine : Item → Type 0
 EntryLine (Hour label) = ⊥
 EntryLine (Asset asset letter owner) = ⊥
-EntryLine (Offer asset blocks count) = ⊥
+EntryLine (Offer asset blocks) = ⊥
 EntryLine (Order asset minute level) = ⊥
 EntryLine (Shed first end) = ⊥
 EntryLine (Meter asset kwh) = Unit {0}
@@ -80,7 +81,7 @@ pub record MeteredLine (before : Book) (asset kwh : ℕ) (r : Result (Option Rul
 abbrev pub Entered : Item → Book → Result (Option RuleName) Fault → Book → Type 0
 Entered (Hour label) before r after = ⊥
 Entered (Asset asset letter owner) before r after = ⊥
-Entered (Offer asset blocks count) before r after = ⊥
+Entered (Offer asset blocks) before r after = ⊥
 Entered (Order asset minute level) before r after = ⊥
 Entered (Shed first end) before r after = ⊥
 Entered (Meter asset kwh) before r after = MeteredLine before asset kwh r after

@@ -1,5 +1,5 @@
 -- The lines of a file that went through, the latest first, and the hour that their calls build. Assumes nothing.
-use Rattle.std.specs.Prelude.{◌≡◌, ℕ, true, List, [], ◌∷◌, ◌++◌, take, Some, None, Option}
+use Rattle.std.specs.Prelude.{◌≡◌, ℕ, true, List, [], ◌∷◌, ◌++◌, Some, None, Option}
 use Rattle.hour.specs.declared.market.Market.{Market}
 use Rattle.hour.specs.declared.book.Book.{Book}
 use Rattle.hour.specs.Reason.{Reason}
@@ -8,6 +8,7 @@ use Rattle.hour.specs.Book.{owner_of, meter_reasons, propose_reasons}
 use Rattle.ledger.specs.Trade.{Trade, enrol, offer, order, shedding, accepted, market_of}
 use Rattle.ledger.specs.Call.{Call, meter, propose, confirm}
 use Rattle.ledger.specs.Ledger.{book_of, ledger_of}
+use Rattle.prices.specs.Block.{listed}
 use Rattle.file.specs.Item.{Sound, key_of, writing}
 use Rattle.file.specs.Key.{follows}
 use Rattle.file.specs.declared.item.Item.{Item}
@@ -29,7 +30,7 @@ abbrev pub label_in : List Item → ℕ
 label_in [] = 0
 label_in (Hour label ∷ before) = label
 label_in (Asset asset letter owner ∷ before) = label_in before
-label_in (Offer asset blocks count ∷ before) = label_in before
+label_in (Offer asset blocks ∷ before) = label_in before
 label_in (Order asset minute level ∷ before) = label_in before
 label_in (Shed first end ∷ before) = label_in before
 label_in (Meter asset kwh ∷ before) = label_in before
@@ -41,7 +42,7 @@ abbrev pub trades_in : List Item → List Trade
 trades_in [] = []
 trades_in (Hour label ∷ before) = trades_in before
 trades_in (Asset asset letter owner ∷ before) = enrol asset letter owner ∷ trades_in before
-trades_in (Offer asset blocks count ∷ before) = offer asset (take count blocks) ∷ trades_in before
+trades_in (Offer asset blocks ∷ before) = offer asset (listed blocks) ∷ trades_in before
 trades_in (Order asset minute level ∷ before) = order asset minute level ∷ trades_in before
 trades_in (Shed first end ∷ before) = shedding first end ∷ trades_in before
 trades_in (Meter asset kwh ∷ before) = trades_in before
@@ -57,7 +58,7 @@ abbrev pub calls_in : List Item → List Call
 calls_in [] = []
 calls_in (Hour label ∷ before) = calls_in before
 calls_in (Asset asset letter owner ∷ before) = calls_in before
-calls_in (Offer asset blocks count ∷ before) = calls_in before
+calls_in (Offer asset blocks ∷ before) = calls_in before
 calls_in (Order asset minute level ∷ before) = calls_in before
 calls_in (Shed first end ∷ before) = calls_in before
 calls_in (Meter asset kwh ∷ before) = meter asset kwh ∷ calls_in before
@@ -72,7 +73,7 @@ book_in items = book_of (ledger_of (market_in items) (calls_in items))
 abbrev pub reasons : List Item → Item → List Reason
 reasons before (Hour label) = []
 reasons before (Asset asset letter owner) = enrol_reasons (market_in before) asset letter owner
-reasons before (Offer asset blocks count) = offer_reasons (market_in before) asset (take count blocks)
+reasons before (Offer asset blocks) = offer_reasons (market_in before) asset (listed blocks)
 reasons before (Order asset minute level) = order_reasons (market_in before) asset minute level
 reasons before (Shed first end) = shed_reasons first end
 reasons before (Meter asset kwh) = meter_reasons (book_in before) asset kwh

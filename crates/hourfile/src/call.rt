@@ -17,11 +17,7 @@ pub fn trade(hour: &mut TradingHour, item: &Item) -> Option<Result<(), HourFault
             letter,
             owner,
         } => hour.enrol(*asset, *letter, *owner),
-        Item::Offer {
-            asset,
-            blocks,
-            count,
-        } => hour.offer(*asset, &blocks[0..*count]),
+        Item::Offer { asset, blocks } => hour.offer(*asset, blocks.as_slice()),
         Item::Order {
             asset,
             minute,

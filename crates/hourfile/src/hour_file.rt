@@ -31,7 +31,7 @@ impl<'a> HourFile<'a> {
     {
         match read_line(self.bytes, cursor.start, cursor.last) {
             Ok(read) => Ok(read),
-            Err(place) => Err(cursor.fault(Fault::IllFormed(place))),
+            Err(broken) => Err(cursor.fault(Fault::IllFormed(broken.place))),
         }
     }
 

@@ -1,9 +1,0 @@
-use Rattle.std.proofs.Common.{◌-◌}
-use Rattle.file.proofs.BlockRows.{Reading}
-use Rattle.file.proofs.offer.read_blocks.Given as goal
-
-abbrev pub invariant-loop-read : goal.invariant-loop-read
-invariant-loop-read l = Reading l.file l.start l.next l.held l.count
-
-abbrev pub decreases-loop-read : goal.decreases-loop-read
-decreases-loop-read l = 6 - l.count

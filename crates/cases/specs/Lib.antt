@@ -2,3 +2,4 @@ pub mod Worked
 pub mod Client
 pub mod Cases
 pub mod Told
+pub mod Run

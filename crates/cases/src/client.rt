@@ -1,6 +1,7 @@
 ghost use Rattle.std.specs.Prelude.{IfOk};
 ghost use Rattle.cases.specs.Client.{Settled, SettledLast};
 
+use crate::run::draw_and_post;
 use hour::{Fault, Line, TradingHour};
 use ledger::posted_nets;
 use splitting::Apportion;
@@ -19,9 +20,6 @@ pub fn settle_one_asset<R: Apportion>(
     trading.enrol(1, 'G', 1)?;
     let mut hour = trading.close();
     hour.meter(1, kwh)?;
-    let slip = hour.draw(rule, lines)?;
-    match hour.post(slip) {
-        Ok(()) => Ok(posted_nets(&hour)),
-        Err(_back) => unreachable(),
-    }
+    let _run = draw_and_post(&mut hour, rule, lines)?;
+    Ok(posted_nets(&hour))
 }

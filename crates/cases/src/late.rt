@@ -2,6 +2,7 @@ ghost use Rattle.std.specs.Prelude.{IfOk};
 ghost use Rattle.cases.specs.Worked.{worked_label, worked_trades, worked_calls};
 ghost use Rattle.cases.specs.Client.{CameTo, SettledLate, TradedTo};
 
+use crate::run::{draw_and_post, draw_and_void};
 use hour::{Fault, Line, PricedHour, TradingHour};
 use ledger::posted_nets;
 use prices::Block;
@@ -62,20 +63,9 @@ pub fn settle_late_reading<R: Apportion>(rule: &R, lines: &mut [Line]) -> Result
     ensures { IfOk result (λ nets. SettledLate nets) }
 {
     let mut hour = read_worked_hour()?;
-    let first = hour.draw(rule, lines)?;
-    match hour.post(first) {
-        Ok(()) => {}
-        Err(_back) => unreachable(),
-    }
+    let _first = draw_and_post(&mut hour, rule, lines)?;
     hour.meter(4, 60_000)?;
-    let second = hour.draw(rule, lines)?;
-    match hour.void(second) {
-        Ok(()) => {}
-        Err(_back) => unreachable(),
-    }
-    let third = hour.draw(rule, lines)?;
-    match hour.post(third) {
-        Ok(()) => Ok(posted_nets(&hour)),
-        Err(_back) => unreachable(),
-    }
+    let _second = draw_and_void(&mut hour, rule, lines)?;
+    let _third = draw_and_post(&mut hour, rule, lines)?;
+    Ok(posted_nets(&hour))
 }

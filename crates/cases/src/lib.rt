@@ -3,6 +3,7 @@
 
 mod client;
 mod late;
+mod run;
 #[cfg(test)]
 mod tests;
 mod worked;

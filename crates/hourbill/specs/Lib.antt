@@ -1,2 +1,4 @@
 pub mod Key
-pub mod Hour
+pub mod Fault
+pub mod Line
+pub mod Report

@@ -1,8 +1,18 @@
-ghost use Rattle.std.specs.Prelude.{◌≡◌, ◌++◌, IfOk, codes, decimal};
+ghost use Rattle.std.specs.Prelude.{◌≡◌, ℕ, ◌<◌, ◌∷◌, ◌++◌, IfOk, IfSome, MatchOption, ◌≢◌, decimal};
+ghost use Rattle.std.specs.Char.{encode_utf8};
+ghost use Rattle.hourbill.specs.Line.{block_text, AreWritten};
 
 use crate::error::Fault;
 use prices::Block;
 use std::alloc::Global;
+
+// The texts before and behind the first separator.
+pub fn halves(text: &str, separator: char) -> Option<(&str, &str)>
+    requires { separator < 128 }
+    ensures { IfSome result (λ parts. text.now ≡ parts.0.now ++ (separator ∷ parts.1.now)) }
+{
+    text.split_once(separator)
+}
 
 // The number that a text writes in the one way allowed, without a sign or needless zeros.
 pub fn number(heap: Global, text: &str) -> Result<u32, Fault>
@@ -18,20 +28,21 @@ pub fn number(heap: Global, text: &str) -> Result<u32, Fault>
 }
 
 // The only character of a text.
-pub fn letter(text: &str) -> Option<char> {
+pub fn letter(text: &str) -> Option<char>
+    ensures { MatchOption result ((c : ℕ) → text.now ≢ encode_utf8 c) (λ c. text.now ≡ encode_utf8 c) }
+{
     let mut characters = text.chars();
-    let first = characters.next()?;
-    match characters.next() {
-        None => Some(first),
-        Some(_) => None,
+    match (characters.next(), characters.next()) {
+        (Some(only), None) => Some(only),
+        _ => None,
     }
 }
 
 // A size and a price, split by a colon.
 fn block(heap: Global, text: &str) -> Result<Block, Fault>
-    ensures { IfOk result (λ b. text.now ≡ decimal b.size ++ (codes ":" ++ decimal b.price)) }
+    ensures { IfOk result (λ b. text.now ≡ block_text b) }
 {
-    let (size, price) = text.split_once(':').ok_or(Fault::OfferLine)?;
+    let (size, price) = halves(text, ':').ok_or(Fault::OfferLine)?;
     Ok(Block {
         size: number(heap, size)?,
         price: number(heap, price)?,
@@ -39,7 +50,9 @@ fn block(heap: Global, text: &str) -> Result<Block, Fault>
 }
 
 // Blocks split by commas.
-pub fn blocks(heap: Global, text: &str) -> Result<Vec<Block>, Fault> {
+pub fn blocks(heap: Global, text: &str) -> Result<Vec<Block>, Fault>
+    ensures { IfOk result (λ list. AreWritten list.items text.now) }
+{
     let mut list = Vec::new(heap);
     for part in text.split(',') {
         list.push(block(heap, part)?)?;

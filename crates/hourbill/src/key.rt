@@ -1,5 +1,8 @@
-ghost use Rattle.std.specs.Prelude.{◌≡◌, Bool, MatchOption, ◌≢◌};
-ghost use Rattle.hourbill.specs.Key.{written, follows};
+ghost use Rattle.std.specs.Prelude.{◌≡◌, Bool};
+ghost use Rattle.hourbill.specs.Key.{follows};
+
+use crate::error::Fault;
+use std::str::FromStr;
 
 // What a line is about, in the order in which lines come.
 #[derive(Clone, Copy, PartialEq, PartialOrd)]
@@ -12,19 +15,6 @@ pub enum Key {
 }
 
 impl Key {
-    pub fn named(name: &str) -> Option<Key>
-        ensures { MatchOption result ((key : Key) → name.now ≢ written key) (λ key. name.now ≡ written key) }
-    {
-        match name {
-            "hour" => Some(Key::Hour),
-            "asset" => Some(Key::Asset),
-            "offer" => Some(Key::Offer),
-            "order" => Some(Key::Order),
-            "shed" => Some(Key::Shed),
-            _ => None,
-        }
-    }
-
     // Whether a line of this key may stand after one of another, or as the first.
     pub fn may_follow(self, previous: Option<Key>) -> bool
         ensures { result ≡ follows previous self }
@@ -32,6 +22,27 @@ impl Key {
         match previous {
             None => self == Key::Hour,
             Some(key) => self != Key::Hour && key <= self,
+        }
+    }
+}
+
+impl FromStr for Key {
+    ghost use Rattle.std.specs.Prelude.{◌≢◌, MatchResult};
+    ghost use Rattle.hourbill.specs.Key.{written};
+    ghost use Rattle.hourbill.specs.declared.key.Key.{Key};
+
+    type Err = Fault;
+
+    ghost from_str_gives = { λ name r. MatchResult r (λ key. name ≡ written key) (λ _. (key : Key) → name ≢ written key) };
+
+    fn from_str(name: &str) -> Result<Key, Fault> {
+        match name {
+            "hour" => Ok(Key::Hour),
+            "asset" => Ok(Key::Asset),
+            "offer" => Ok(Key::Offer),
+            "order" => Ok(Key::Order),
+            "shed" => Ok(Key::Shed),
+            _ => Err(Fault::Key),
         }
     }
 }

@@ -3,12 +3,11 @@
 
 mod error;
 mod field;
-mod hour;
 mod key;
 mod reader;
 mod report;
 
-use error::Error;
+use error::Stop;
 use std::io::Read;
 use std::process::ExitCode;
 
@@ -16,21 +15,21 @@ use std::process::ExitCode;
 const MAX_BYTES: usize = 32768;
 
 // Standard input as text; a byte that is not UTF-8 becomes a character that no field has.
-fn read_input(rt: &HostRuntime) -> Result<String, Error> {
+fn read_input(rt: &HostRuntime) -> Result<String, Stop> {
     let mut bytes = Vec::new(rt.alloc());
     rt.stdin()
         .take(MAX_BYTES as u64 + 1)
         .read_to_end(&mut bytes)?;
     if bytes.len() > MAX_BYTES {
-        return Err(Error::TooLong);
+        return Err(Stop::TooLong);
     }
     Ok(String::from_utf8_lossy(rt.alloc(), &bytes)?)
 }
 
-fn run(rt: &HostRuntime) -> Result<(), Error> {
+fn run(rt: &HostRuntime) -> Result<(), Stop> {
     let text = read_input(rt)?;
-    let hour = reader::read_hour(rt.alloc(), text.as_str())?;
-    let report = report::report(rt.alloc(), hour.label, &hour.schedule)?;
+    let hour = reader::read_hour(rt.alloc(), text.as_str())?.close();
+    let report = report::report(rt.alloc(), &hour)?;
     rt.print(report)?;
     Ok(())
 }
@@ -38,8 +37,8 @@ fn run(rt: &HostRuntime) -> Result<(), Error> {
 fn main(rt: HostRuntime) -> ExitCode {
     match run(&rt) {
         Ok(()) => ExitCode::SUCCESS,
-        Err(error) => {
-            let _ = eprintln!(rt; "hourbill: {error}");
+        Err(stop) => {
+            let _ = eprintln!(rt; "hourbill: {stop}");
             ExitCode::FAILURE
         }
     }

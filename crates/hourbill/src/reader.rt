@@ -1,24 +1,35 @@
-ghost use Rattle.std.specs.Prelude.{◌≡◌, decimal, OnOk};
+ghost use Rattle.std.specs.Prelude.{◌≡◌, ◌≤◌, ◌++◌, Some, IfOk, IfErr, OnOk, OnErr};
+ghost use Rattle.hourbill.specs.declared.key.Key.{Key};
+ghost use Rattle.hourbill.specs.Line.{LabelLine, AssetLine, OfferLine, OrderLine, ShedLine, ReadLine, Reads, line_text};
 
 use crate::error::{BadLine, Fault};
 use crate::field;
-use crate::hour::Hour;
 use crate::key::Key;
+use hour::TradingHour;
 use std::alloc::Global;
 
-// The hour so far, and the key of the latest line.
+// The hour so far, and the key of the latest line; with no line read yet, the label is of no account.
 #[derive(Drop)]
 struct Reader {
-    hour: Hour,
+    hour: TradingHour,
     previous: Option<Key>,
+}
+
+// The key and the fields of a line with the line feed that ends it.
+fn parts(line: &str) -> Result<(Key, &str), Fault>
+    ensures { IfOk result (λ parts. line.now ≡ line_text parts.0 parts.1.now) }
+{
+    let content = line.strip_suffix('\n').ok_or(Fault::NoLineEnd)?;
+    let (name, fields) = field::halves(content, '=').ok_or(Fault::Key)?;
+    Ok((name.parse()?, fields))
 }
 
 impl Reader {
     // Reads one line with the line feed that ends it.
-    fn read_line(&mut self, heap: Global, line: &str) -> Result<(), Fault> {
-        let content = line.strip_suffix('\n').ok_or(Fault::NoLineEnd)?;
-        let (name, fields) = content.split_once('=').ok_or(Fault::Key)?;
-        let key = Key::named(name).ok_or(Fault::Key)?;
+    fn read_line(&mut self, heap: Global, line: &str) -> Result<(), Fault>
+        ensures { OnOk result (ReadLine line.now self.old.previous self.old.hour.market self.new.previous self.new.hour.market) }
+    {
+        let (key, fields) = parts(line)?;
         if !key.may_follow(self.previous) {
             return Err(Fault::Key);
         }
@@ -33,46 +44,74 @@ impl Reader {
     }
 }
 
-fn read_label(heap: Global, hour: &mut Hour, fields: &str) -> Result<(), Fault>
-    ensures { OnOk result (fields.now ≡ decimal hour.new.label) }
+fn read_label(heap: Global, hour: &mut TradingHour, fields: &str) -> Result<(), Fault>
+    ensures read { OnOk result (LabelLine fields.now hour.new.market) }
+    ensures refused { OnErr result (hour.new.market ≡ hour.old.market) }
 {
-    hour.label = field::number(heap, fields)?;
+    *hour = TradingHour::new(field::number(heap, fields)?);
     Ok(())
 }
 
-fn read_asset(heap: Global, hour: &mut Hour, fields: &str) -> Result<(), Fault> {
-    let (asset, rest) = fields.split_once(',').ok_or(Fault::AssetLine)?;
-    let (letter, owner) = rest.split_once(',').ok_or(Fault::AssetLine)?;
+fn read_asset(heap: Global, hour: &mut TradingHour, fields: &str) -> Result<(), Fault>
+    ensures read { OnOk result (AssetLine fields.now hour.old.market hour.new.market) }
+    ensures refused { OnErr result (hour.new.market ≡ hour.old.market) }
+{
+    let (asset, rest) = field::halves(fields, ',').ok_or(Fault::AssetLine)?;
+    let (letter, owner) = field::halves(rest, ',').ok_or(Fault::AssetLine)?;
     let asset = field::number(heap, asset)?;
     let letter = field::letter(letter).ok_or(Fault::AssetLine)?;
-    hour.enrol(asset, letter, field::number(heap, owner)?)
+    let owner = field::number(heap, owner)?;
+    hour.enrol(asset, letter, owner)
+        .map_err(|refusal| Fault::of_call(Fault::AssetLine, refusal))
 }
 
-fn read_offer(heap: Global, hour: &mut Hour, fields: &str) -> Result<(), Fault> {
-    let (asset, list) = fields.split_once(',').ok_or(Fault::OfferLine)?;
+fn read_offer(heap: Global, hour: &mut TradingHour, fields: &str) -> Result<(), Fault>
+    ensures read { OnOk result (OfferLine fields.now hour.old.market hour.new.market) }
+    ensures refused { OnErr result (hour.new.market ≡ hour.old.market) }
+{
+    let (asset, list) = field::halves(fields, ',').ok_or(Fault::OfferLine)?;
     let asset = field::number(heap, asset)?;
     let blocks = field::blocks(heap, list)?;
+    if blocks.is_empty() || blocks.len() > 7 {
+        return Err(Fault::OfferLine);
+    }
     hour.offer(asset, &blocks)
+        .map_err(|refusal| Fault::of_call(Fault::OfferLine, refusal))
 }
 
-fn read_order(heap: Global, hour: &mut Hour, fields: &str) -> Result<(), Fault> {
-    let (asset, rest) = fields.split_once(',').ok_or(Fault::OrderLine)?;
-    let (minute, level) = rest.split_once(',').ok_or(Fault::OrderLine)?;
+fn read_order(heap: Global, hour: &mut TradingHour, fields: &str) -> Result<(), Fault>
+    ensures read { OnOk result (OrderLine fields.now hour.old.market hour.new.market) }
+    ensures refused { OnErr result (hour.new.market ≡ hour.old.market) }
+{
+    let (asset, rest) = field::halves(fields, ',').ok_or(Fault::OrderLine)?;
+    let (minute, level) = field::halves(rest, ',').ok_or(Fault::OrderLine)?;
     let asset = field::number(heap, asset)?;
     let minute = field::number(heap, minute)?;
-    hour.order(asset, minute, field::number(heap, level)?)
+    let level = field::number(heap, level)?;
+    if minute > 59 {
+        return Err(Fault::OrderLine);
+    }
+    hour.order(asset, minute, level)
+        .map_err(|refusal| Fault::of_call(Fault::OrderLine, refusal))
 }
 
-fn read_shed(heap: Global, hour: &mut Hour, fields: &str) -> Result<(), Fault> {
-    let (first, end) = fields.split_once(',').ok_or(Fault::ShedLine)?;
+fn read_shed(heap: Global, hour: &mut TradingHour, fields: &str) -> Result<(), Fault>
+    ensures read { OnOk result (ShedLine fields.now hour.old.market hour.new.market) }
+    ensures refused { OnErr result (hour.new.market ≡ hour.old.market) }
+{
+    let (first, end) = field::halves(fields, ',').ok_or(Fault::ShedLine)?;
     let first = field::number(heap, first)?;
-    hour.shed(first, field::number(heap, end)?)
+    let end = field::number(heap, end)?;
+    hour.shed(first, end).map_err(|_refusal| Fault::ShedLine)
 }
 
 // Reads the lines of an hour, or names the first that cannot be read.
-pub fn read_hour(heap: Global, text: &str) -> Result<Hour, BadLine> {
+pub fn read_hour(heap: Global, text: &str) -> Result<TradingHour, BadLine>
+    ensures read { IfOk result (λ hour. (last : Key) × Reads text.now (Some last) hour.market) }
+    ensures numbered { IfErr result (λ bad. 1 ≤ bad.number) }
+{
     let mut reader = Reader {
-        hour: Hour::new(0),
+        hour: TradingHour::new(0),
         previous: None,
     };
     for (place, line) in text.split_inclusive('\n').enumerate() {

@@ -1,18 +1,18 @@
 ghost use Rattle.std.specs.Prelude.{◌≡◌, ◌+◌, true, is_ok};
 
-use crate::tests::calls::told;
+use crate::run::draw_and_void;
+use crate::tests::calls::{Refusal, told};
 use crate::tests::scene::accepted;
-use crate::tests::settle::preview;
 use hour::{PricedHour, TradingHour};
 use splitting::Running;
 use std::test::Fail;
 
 // Draws so many runs and voids each of them.
-fn draw_and_void(hour: &mut PricedHour, times: u32) -> Result<(), Fail>
+fn draw_often(hour: &mut PricedHour, times: u32) -> Result<(), Fail>
     ensures { is_ok result ≡ true → hour.new.book.draws ≡ hour.old.book.draws + times }
 {
     for _time in 0..times {
-        accepted(preview(hour, &Running, &mut []))?;
+        accepted(draw_and_void(hour, &Running, &mut []))?;
     }
     Ok(())
 }
@@ -20,11 +20,14 @@ fn draw_and_void(hour: &mut PricedHour, times: u32) -> Result<(), Fail>
 #[test]
 fn draws_are_used_up(rt: HostRuntime) -> Result<(), Fail> {
     let mut hour = TradingHour::new(7).close();
-    draw_and_void(&mut hour, 999_999)?;
-    assert_eq!(rt; accepted(preview(&mut hour, &Running, &mut []))?, 1_000_000);
+    draw_often(&mut hour, 999_999)?;
     assert_eq!(rt;
-        told(preview(&mut hour, &Running, &mut [])),
-        Some(('H', 17, 0))
+        accepted(draw_and_void(&mut hour, &Running, &mut []))?,
+        1_000_000
+    );
+    assert_eq!(rt;
+        told(draw_and_void(&mut hour, &Running, &mut [])),
+        Some(Refusal('H', 17, 0))
     );
     Ok(())
 }

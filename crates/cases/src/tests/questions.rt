@@ -1,8 +1,8 @@
 ghost use Rattle.std.specs.Prelude.{◌≡◌};
 
-use crate::tests::calls::{Trade, told, trade_all};
+use crate::run::draw_and_void;
+use crate::tests::calls::{Refusal, Trade, make_all, told};
 use crate::tests::scene::{BLANK, LABEL, accepted, block, closed_hour, read_worked, rows};
-use crate::tests::settle::preview;
 use hour::{PricedHour, TradingHour};
 use splitting::{Largest, Running};
 use std::process::Abort;
@@ -14,9 +14,12 @@ fn worked_hour_questions(rt: HostRuntime) -> Result<(), Fail> {
     assert_eq!(rt; hour.price(), (6_000, 0));
     assert_eq!(rt; hour.line_count(), 4);
     assert_eq!(rt; accepted(hour.setter(0))?, Some(2));
-    assert_eq!(rt; told(hour.setter(60)), Some(('H', 8, 60)));
+    assert_eq!(rt; told(hour.setter(60)), Some(Refusal('H', 8, 60)));
     let mut counts = [9; 65];
-    assert_eq!(rt; told(hour.tally(&mut counts[0..63])), Some(('H', 14, 64)));
+    assert_eq!(rt;
+        told(hour.tally(&mut counts[0..63])),
+        Some(Refusal('H', 14, 64))
+    );
     assert_eq!(rt; counts, [9; 65]);
     accepted(hour.tally(&mut counts))?;
     assert_eq!(rt;
@@ -31,7 +34,7 @@ fn trade_shed(rt: &impl Abort, hour: &mut TradingHour) -> Result<(), Fail>
 {
     assert_eq!(rt; told(hour.enrol(64, 'G', 32)), None);
     assert_eq!(rt; told(hour.offer(64, &[block(10, 0)])), None);
-    trade_all(
+    make_all(
         rt,
         hour,
         &[(Trade::Order(64, 30, 5), None), (Trade::Shed(50, 60), None)],
@@ -58,7 +61,7 @@ fn empty_hour_is_drawn(rt: HostRuntime) -> Result<(), Fail> {
     let mut hour = TradingHour::new(7).close();
     assert_eq!(rt; hour.price(), (0, 0));
     assert_eq!(rt; hour.line_count(), 0);
-    assert_eq!(rt; accepted(preview(&mut hour, &Running, &mut []))?, 1);
+    assert_eq!(rt; accepted(draw_and_void(&mut hour, &Running, &mut []))?, 1);
     Ok(())
 }
 
@@ -67,16 +70,19 @@ fn refused_draws(rt: &impl Abort, hour: &mut PricedHour)
     ensures { hour.new.book.market.label ≡ hour.old.book.market.label }
 {
     let mut few = [BLANK; 3];
-    assert_eq!(rt; told(preview(hour, &Largest, &mut few)), Some(('H', 14, 4)));
+    assert_eq!(rt;
+        told(draw_and_void(hour, &Largest, &mut few)),
+        Some(Refusal('H', 14, 4))
+    );
     let mut lines = [BLANK; 5];
     assert_eq!(rt;
-        told(preview(hour, &Largest, &mut lines)),
-        Some(('H', 15, 1))
+        told(draw_and_void(hour, &Largest, &mut lines)),
+        Some(Refusal('H', 15, 1))
     );
     assert_eq!(rt; told(hour.meter(1, 0)), None);
     assert_eq!(rt;
-        told(preview(hour, &Largest, &mut lines)),
-        Some(('H', 15, 2))
+        told(draw_and_void(hour, &Largest, &mut lines)),
+        Some(Refusal('H', 15, 2))
     );
     assert_eq!(rt; rows(&lines), [[77, 7, 7, 7, 7, 7, 7]; 5]);
 }
@@ -90,8 +96,8 @@ fn draws_name_their_refusals(rt: HostRuntime) -> Result<(), Fail> {
     assert_eq!(rt; told(hour.meter(4, 0)), None);
     let mut lines = [BLANK; 5];
     assert_eq!(rt;
-        told(preview(&mut hour, &Running, &mut lines)),
-        Some(('S', 16, 0))
+        told(draw_and_void(&mut hour, &Running, &mut lines)),
+        Some(Refusal('S', 16, 0))
     );
     assert_eq!(rt; rows(&lines), [[77, 7, 7, 7, 7, 7, 7]; 5]);
     Ok(())

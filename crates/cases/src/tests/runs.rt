@@ -1,9 +1,9 @@
 ghost use Rattle.std.specs.Prelude.{◌≡◌, true, is_ok, None};
 ghost use Rattle.cases.specs.Told.{figures_of};
 
+use crate::run::{draw_and_post, draw_and_void};
 use crate::tests::calls::told;
 use crate::tests::scene::{BLANK, LABEL, accepted, rows, worked_hour};
-use crate::tests::settle::{preview, settle_once};
 use hour::{Amounts, PricedHour};
 use splitting::{Either, Largest, Running};
 use std::process::Abort;
@@ -38,10 +38,10 @@ fn worked_hour_by_each_rule(rt: HostRuntime) -> Result<(), Fail> {
     let mut hour = worked_hour(&rt, LABEL)?;
     let mut lines = [BLANK; 5];
     let mut rule: Either<Largest, Running> = Either::First(Largest);
-    assert_eq!(rt; accepted(preview(&mut hour, &rule, &mut lines))?, 1);
+    assert_eq!(rt; accepted(draw_and_void(&mut hour, &rule, &mut lines))?, 1);
     assert_eq!(rt; rows(&lines), WORKED);
     rule = Either::Second(Running);
-    assert_eq!(rt; accepted(preview(&mut hour, &rule, &mut lines))?, 2);
+    assert_eq!(rt; accepted(draw_and_void(&mut hour, &rule, &mut lines))?, 2);
     let mut expected = WORKED;
     expected[2] = [3, -420_000_000, 0, 0, 30_937, 0, -450_937_000];
     expected[3] = [4, -300_000_000, 0, 0, 14_063, 0, -314_063_000];
@@ -54,10 +54,10 @@ fn voided(rt: &impl Abort, hour: &mut PricedHour) -> Result<(), Fail>
     ensures { is_ok result ≡ true → hour.new.book.out ≡ None }
 {
     let mut lines = [BLANK; 5];
-    assert_eq!(rt; accepted(preview(hour, &Largest, &mut lines))?, 2);
+    assert_eq!(rt; accepted(draw_and_void(hour, &Largest, &mut lines))?, 2);
     assert_eq!(rt; rows(&lines), LATE);
     lines = [BLANK; 5];
-    assert_eq!(rt; accepted(settle_once(hour, &Largest, &mut lines))?, 3);
+    assert_eq!(rt; accepted(draw_and_post(hour, &Largest, &mut lines))?, 3);
     assert_eq!(rt; rows(&lines), LATE);
     Ok(())
 }
@@ -66,11 +66,11 @@ fn late_reading(rt: &impl Abort, hour: &mut PricedHour) -> Result<(), Fail>
     ensures { is_ok result ≡ true → hour.new.book.out ≡ None }
 {
     let mut lines = [BLANK; 5];
-    assert_eq!(rt; accepted(settle_once(hour, &Largest, &mut lines))?, 1);
+    assert_eq!(rt; accepted(draw_and_post(hour, &Largest, &mut lines))?, 1);
     assert_eq!(rt; rows(&lines), WORKED);
     assert_eq!(rt; told(hour.meter(4, 60_000)), None);
     voided(rt, hour)?;
-    assert_eq!(rt; accepted(settle_once(hour, &Largest, &mut lines))?, 4);
+    assert_eq!(rt; accepted(draw_and_post(hour, &Largest, &mut lines))?, 4);
     assert_eq!(rt; rows(&lines), NOTHING);
     Ok(())
 }

@@ -1,8 +1,7 @@
-ghost use Rattle.std.specs.Prelude.{◌≡◌, [], ◌∷◌, IfOk, None, Ok, slice_index_or};
-ghost use Rattle.hour.specs.Line.{no_line};
+ghost use Rattle.std.specs.Prelude.{◌≡◌, map, IfOk, None, Ok};
 ghost use Rattle.cases.specs.Told.{row_of};
 
-use crate::tests::calls::{Entry, Trade, enter_all, told, trade_all};
+use crate::tests::calls::{Entry, Trade, make_all, told};
 use hour::{Amounts, Fault, Line, PricedHour, TradingHour};
 use prices::Block;
 use std::process::Abort;
@@ -34,7 +33,7 @@ pub fn block(size: u32, price: u32) -> Block
 fn trade_worked(rt: &impl Abort, hour: &mut TradingHour) -> Result<(), Fail>
     ensures { hour.new.market.label ≡ hour.old.market.label }
 {
-    trade_all(
+    make_all(
         rt,
         hour,
         &[
@@ -47,7 +46,7 @@ fn trade_worked(rt: &impl Abort, hour: &mut TradingHour) -> Result<(), Fail>
     assert_eq!(rt; told(hour.offer(1, &[block(100, 2_000)])), None);
     let dear = [block(50, 3_000), block(50, 9_000)];
     assert_eq!(rt; told(hour.offer(2, &dear)), None);
-    trade_all(
+    make_all(
         rt,
         hour,
         &[
@@ -84,7 +83,7 @@ pub fn read_worked(rt: &impl Abort, hour: &mut PricedHour) -> Result<(), Fail>
     ensures label { hour.new.book.market.label ≡ hour.old.book.market.label }
     ensures out { hour.new.book.out ≡ hour.old.book.out }
 {
-    enter_all(
+    make_all(
         rt,
         hour,
         &[
@@ -109,8 +108,8 @@ pub fn worked_hour(rt: &impl Abort, label: u32) -> Result<PricedHour, Fail>
 }
 
 // A line as the statement prints it: participant, energy, uplift, adjustment, supply charge, load charge, net.
-fn row(line: &Line) -> [i64; 7]
-    ensures { result ≡ row_of line.now }
+fn row(line: Line) -> [i64; 7]
+    ensures { result ≡ row_of line }
 {
     let amounts = line.amounts;
     [
@@ -126,13 +125,7 @@ fn row(line: &Line) -> [i64; 7]
 
 // Four lines, and the place behind them.
 pub fn rows(lines: &[Line; 5]) -> [[i64; 7]; 5]
-    ensures { result ≡ row_of (slice_index_or lines.now 0 no_line) ∷ row_of (slice_index_or lines.now 1 no_line) ∷ row_of (slice_index_or lines.now 2 no_line) ∷ row_of (slice_index_or lines.now 3 no_line) ∷ row_of (slice_index_or lines.now 4 no_line) ∷ [] }
+    ensures { result ≡ map row_of lines.now }
 {
-    [
-        row(&lines[0]),
-        row(&lines[1]),
-        row(&lines[2]),
-        row(&lines[3]),
-        row(&lines[4]),
-    ]
+    lines.map(row)
 }

@@ -1,9 +1,8 @@
 ghost use Rattle.std.specs.Prelude.{◌≡◌, ◌+◌, true, is_some, is_ok, IfOk, Some, None};
 ghost use Rattle.hour.specs.declared.fault.Fault.TheVariants.{RunOut};
-ghost use Rattle.cases.specs.Told.{parts_of};
 ghost use Rattle.hour.specs.Run.{slip_fits};
 
-use crate::tests::calls::{Entry, parts, told};
+use crate::tests::calls::{Call, Entry, Refusal, told};
 use crate::tests::scene::{BLANK, LABEL, accepted, worked_hour};
 use crate::tests::settle::void_elsewhere;
 use hour::{Fault, Line, PricedHour, Returned, Slip};
@@ -16,8 +15,8 @@ fn entered_while_out(
     hour: &mut PricedHour,
     call: Entry,
     lines: &mut [Line],
-) -> Result<Option<(char, u32, u64)>, Fault>
-    ensures refused { IfOk result (λ told. told ≡ Some (parts_of (RunOut (hour.old.book.draws + 1)))) }
+) -> Result<Option<Refusal>, Fault>
+    ensures refused { IfOk result (λ told. told ≡ Some (record { 0 = 72; 1 = 1; 2 = hour.old.book.draws + 1 })) }
     ensures done { is_ok result ≡ true → hour.new.book.out ≡ None }
 {
     let slip = hour.draw(&Largest, lines)?;
@@ -29,14 +28,14 @@ fn entered_while_out(
 }
 
 // What a draw answers while a run is out; the run is then voided.
-fn drawn_while_out(hour: &mut PricedHour, lines: &mut [Line]) -> Result<(char, u32, u64), Fault>
-    ensures { IfOk result (λ told. told ≡ parts_of (RunOut (hour.old.book.draws + 1))) }
+fn drawn_while_out(hour: &mut PricedHour, lines: &mut [Line]) -> Result<Refusal, Fault>
+    ensures { IfOk result (λ told. told ≡ record { 0 = 72; 1 = 1; 2 = hour.old.book.draws + 1 }) }
 {
     let slip = hour.draw(&Largest, lines)?;
     match hour.draw(&Largest, &mut lines[0..0]) {
         Ok(_second) => unreachable(),
         Err(fault) => match hour.void(slip) {
-            Ok(()) => Ok(parts(fault)),
+            Ok(()) => Ok(fault.into()),
             Err(_back) => unreachable(),
         },
     }
@@ -53,7 +52,7 @@ fn refused_while_out(
 {
     let mut lines = [BLANK; 4];
     let answer = accepted(entered_while_out(hour, call, &mut lines))?;
-    assert_eq!(rt; answer, Some(('H', 1, run)));
+    assert_eq!(rt; answer, Some(Refusal('H', 1, run)));
     Ok(())
 }
 
@@ -67,7 +66,7 @@ fn run_out_is_refused_first(rt: HostRuntime) -> Result<(), Fail> {
     let mut lines = [BLANK; 4];
     assert_eq!(rt;
         accepted(drawn_while_out(&mut hour, &mut lines))?,
-        ('H', 1, 5)
+        Refusal('H', 1, 5)
     );
     Ok(())
 }
@@ -91,7 +90,7 @@ fn exchanged(
     first: &mut PricedHour,
     second: &mut PricedHour,
     lines: &mut [Line],
-) -> Result<Option<(char, u32, u64)>, Fault>
+) -> Result<Option<Refusal>, Fault>
     ensures first { IfOk result (λ told. is_some told ≡ true → first.new.book.out ≡ None) }
     ensures second { IfOk result (λ told. is_some told ≡ true → second.new.book.out ≡ None) }
 {
@@ -110,7 +109,7 @@ fn exchanged(
         },
         Err(Returned { slip, fault }) => {
             void_both(first, slip, second, other);
-            Ok(Some(parts(fault)))
+            Ok(Some(fault.into()))
         }
     }
 }
@@ -127,7 +126,7 @@ fn spare(
     let mut lines = [BLANK; 4];
     match accepted(void_elsewhere(first, second, &Largest, &mut lines))? {
         Some(fault) => {
-            assert_eq!(rt; parts(fault), ('H', 2, run));
+            assert_eq!(rt; Refusal::from(fault), Refusal('H', 2, run));
             Ok(())
         },
         None => Err(Fail::new("taken")),
@@ -142,7 +141,7 @@ fn slip_of_another_hour_comes_back(rt: HostRuntime) -> Result<(), Fail> {
     spare(&rt, &mut second, &mut first, 1)?;
     let mut lines = [BLANK; 4];
     let answer = accepted(exchanged(&mut first, &mut second, &mut lines))?;
-    assert_eq!(rt; answer, Some(('H', 2, 2)));
+    assert_eq!(rt; answer, Some(Refusal('H', 2, 2)));
     Ok(())
 }
 
@@ -158,6 +157,6 @@ fn slip_of_another_run_comes_back(rt: HostRuntime) -> Result<(), Fail> {
     );
     spare(&rt, &mut first, &mut second, 2)?;
     let answer = accepted(exchanged(&mut first, &mut second, &mut lines))?;
-    assert_eq!(rt; answer, Some(('H', 2, 3)));
+    assert_eq!(rt; answer, Some(Refusal('H', 2, 3)));
     Ok(())
 }

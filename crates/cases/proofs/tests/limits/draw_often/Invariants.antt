@@ -1,5 +1,5 @@
 use Rattle.std.proofs.Common.{◌≡◌, ◌+◌}
-use Rattle.cases.proofs.tests.limits.draw_and_void.Given as goal
+use Rattle.cases.proofs.tests.limits.draw_often.Given as goal
 
 abbrev pub invariant-loop-time : goal.invariant-loop-time
 invariant-loop-time l = l.hour.book.draws ≡ l.initial.hour.book.draws + l._time

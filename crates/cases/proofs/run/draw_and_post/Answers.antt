@@ -1,5 +1,5 @@
 use Rattle.hour.proofs.Slips.{fresh_fits, not_returned}
-use Rattle.cases.proofs.tests.settle.settle_once.Goals as goal
+use Rattle.cases.proofs.run.draw_and_post.Goals as goal
 
 pub unreachable-requires : goal.unreachable-requires
 unreachable-requires g c =

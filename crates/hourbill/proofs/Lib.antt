@@ -1,0 +1,4 @@
+mod Letter
+mod Parts
+mod Counts
+mod Lines

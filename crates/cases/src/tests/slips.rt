@@ -1,5 +1,4 @@
 ghost use Rattle.std.specs.Prelude.{◌≡◌, ◌+◌, true, is_some, is_ok, IfOk, Some, None};
-ghost use Rattle.hour.specs.declared.fault.Fault.TheVariants.{RunOut};
 ghost use Rattle.hour.specs.Run.{slip_fits};
 
 use crate::tests::calls::{Call, Entry, Refusal, told};

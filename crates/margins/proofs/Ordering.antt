@@ -1,10 +1,11 @@
 -- A list whose neighbours are in order is in order throughout. Assumes nothing.
-use Rattle.std.proofs.Common.{◌≡◌, ℕ, zero, suc, ◌+◌, ◌-◌, ◌<◌, ◌≤◌, Bool, true, false, List, length, Decides, sym, refl, ap, ◌∙◌, subst, inl, inr, add-one, arith}
+use Rattle.std.proofs.Common.{◌≡◌, ℕ, zero, suc, ◌+◌, ◌-◌, ◌<◌, Bool, true, false, List, length, Decides, sym, refl, ap, ◌∙◌, subst, inl, inr, add-one, arith}
 use Rattle.std.proofs.lemmas.Bool.{cases_eq, cases_Bool, both_ways, and_parts, and_from, ltb-true, lt-ltb}
+use Rattle.std.specs.List.{IsAllAdjacentAnswer}
 use Rattle.prices.specs.declared.block.Block.{Block}
 use Rattle.prices.specs.declared.kind.Kind.{Kind}
 use Rattle.prices.specs.declared.kind.Kind.TheVariants.{Generator, Import, Load, Export}
-use Rattle.prices.specs.Block.{price_at}
+use Rattle.prices.specs.Block.{no_block, price_at}
 use Rattle.prices.specs.Kind.{source}
 use Rattle.margins.specs.Side.{StrictOrder, lower_first, higher_first}
 use Rattle.margins.specs.Order.{every, next_in_order, ordered, InOrder, Rising, Falling, InKindsOrder}
@@ -35,27 +36,13 @@ pub every_not : (p : ℕ → Bool) (n k : ℕ) → k < n → p k ≡ false → e
 every_not p n k lt fails =
     elim (cases_Bool (every p n)) [ inl t ↦ absurd (both_ways (p k) fails (every_at p n t k lt)) | inr f ↦ f ]
 
-module _ (precedes : ℕ → ℕ → Bool) (blocks : List Block) where
-  -- one price more in order
-  pub order_more : (place : ℕ) → 1 ≤ place → every (next_in_order precedes blocks) (place - 1) ≡ true → precedes (price_at blocks (place - 1)) (price_at blocks place) ≡ true → every (next_in_order precedes blocks) (place + 1 - 1) ≡ true
-  order_more place some all here =
-      let same : place - 1 + 1 ≡ place = omega arith in
-      let next : place - 1 + 1 ≡ place + 1 - 1 = omega arith in
-      let step : next_in_order precedes blocks (place - 1) ≡ true = subst (λ m. precedes (price_at blocks (place - 1)) (price_at blocks m) ≡ true) (sym same) here in
-      subst (λ m. every (next_in_order precedes blocks) m ≡ true) next (every_more _ _ all step)
-
-  -- one price out of order
-  pub order_not : (place : ℕ) → 1 ≤ place → place < length blocks → precedes (price_at blocks (place - 1)) (price_at blocks place) ≡ false → false ≡ ordered precedes blocks
-  unfolding ordered
-  order_not place some within here =
-      let same : place - 1 + 1 ≡ place = omega arith in
-      sym (every_not (next_in_order precedes blocks) (length blocks - 1) (place - 1) (omega arith) (subst (λ m. precedes (price_at blocks (place - 1)) (price_at blocks m) ≡ false) (sym same) here))
-
-  -- all prices in order
-  pub order_all : (place : ℕ) → length blocks ≤ place → every (next_in_order precedes blocks) (place - 1) ≡ true → true ≡ ordered precedes blocks
-  unfolding ordered
-  order_all place past all =
-      sym (every_from (next_in_order precedes blocks) (length blocks - 1) (λ k lt. every_at (next_in_order precedes blocks) (place - 1) all k (omega arith)))
+-- what was answered about each two neighbours tells whether the prices are in order
+pub order_answer : (precedes : ℕ → ℕ → Bool) (blocks : List Block) (r : Bool) → IsAllAdjacentAnswer (λ block next answer. answer ≡ precedes block.price next.price) blocks r → r ≡ ordered precedes blocks
+unfolding ordered
+order_answer precedes blocks true each =
+    sym (every_from (next_in_order precedes blocks) (length blocks - 1) (λ k lt. sym (each k no_block (omega arith))))
+order_answer precedes blocks false some =
+    sym (every_not (next_in_order precedes blocks) (length blocks - 1) some.0 (omega (arith, some.1)) (sym (some.2 no_block)))
 
 module _ (precedes : ℕ → ℕ → Bool) (strict : StrictOrder precedes) (blocks : List Block) where
   -- from each price to the next, to every later price

@@ -29,9 +29,7 @@ const BID: [Block; 2] = [
 // An asset that runs at one level to the half hour and at another from then on.
 fn running(kind: Kind, blocks: &[Block], level: u32, later: u32) -> Asset {
     let mut levels = [level; 60];
-    for minute in 30..60 {
-        levels[minute] = later;
-    }
+    levels[30..].fill(later);
     Asset {
         kind,
         offer: BlockList::new(blocks),

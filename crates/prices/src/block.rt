@@ -69,7 +69,7 @@ impl BlockList {
         &self.blocks[0..self.count.min(7)]
     }
 
-    // Power in all blocks together, in MW.
+    // Power in all blocks together, in MW; the loop shows the bound, which the contract of a chain's sum does not.
     pub fn total_size(&self) -> u64
         ensures value { result ≡ ahead (listed self.now) (length (listed self.now)) }
         ensures bound { result ≤ 7 * 4294967295 }

@@ -47,7 +47,7 @@ impl Schedule {
         self.top_price(minute).unwrap_or(0)
     }
 
-    // Sum of the 60 system prices.
+    // Sum of the 60 system prices; the loop shows the bound, which the contract of a chain's sum does not.
     fn price_sum(&self) -> u64
         ensures value { result ≡ price_sum self.now }
         ensures bound { result ≤ 60 * 4294967295 }

@@ -7,6 +7,7 @@ pub mod Soundness
 pub mod Limits
 pub mod Listings
 pub mod Charges
+pub mod Spreading
 pub mod Runs
 pub mod Drawings
 pub mod TradeSteps

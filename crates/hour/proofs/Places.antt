@@ -1,7 +1,8 @@
 -- Chains over the numbers below a bound and over lists, in the words of sums, counts and first places. Assumes nothing.
-use Rattle.std.proofs.Common.{◌≡◌, ℕ, zero, suc, ◌+◌, ◌≤◌, Bool, true, false, cond, ◌||◌, ltb, List, [], ◌∷◌, map, length, get_or, take, sum, Some, None, Option, sym, refl, ap, ◌∙◌, add-one, arith}
+use Rattle.std.proofs.Common.{◌≡◌, ℕ, zero, suc, ◌+◌, ◌<◌, ◌≤◌, Bool, true, false, cond, ◌||◌, ltb, List, [], ◌∷◌, map, length, get_or, take, sum, Some, None, Option, sym, refl, ap, ◌∙◌, subst, inl, inr, add-one, arith}
 use denote.Param.Members.{Mut}
 use Rattle.std.specs.Fn.{Called}
+use Rattle.std.specs.Array.{IsFromFnResultFrom, IsFromFnResult}
 use Rattle.std.specs.Iterator.{Drains}
 use Rattle.std.specs.Iterator.Adapters.{map_source, map_callee, map_steps}
 use Rattle.std.specs.declared.iter.Map.{Map}
@@ -10,7 +11,7 @@ use Rattle.std.specs.List.{range_with_len, fold, sum_by, find, list_any}
 use Rattle.std.specs.Option.{option_map}
 use Rattle.std.proofs.iter.Yields.{nat_range_steps}
 use Rattle.std.proofs.lemmas.Iterator.{YieldsList, YieldsList-from_map, items_from_drains}
-use Rattle.std.proofs.lemmas.Bool.{lt-ltb}
+use Rattle.std.proofs.lemmas.Bool.{lt-ltb, cases_eq}
 use Rattle.std.proofs.lemmas.List.{map-id, take_all}
 use Rattle.std.proofs.lemmas.List.Sums.{sum_by_more}
 use Rattle.std.proofs.lemmas.List.FromFn.{sum_by-map-range_with_len_more}
@@ -120,3 +121,18 @@ sum_of_range {F} {g} {s} h f n r ran road callee calls =
     let items : map (λ x. x) ran.0 ≡ map h (range_with_len 0 n) =
     items_from_drains ran.0 (drained.1.0, drained.1.1, λ _. (drained.0, drained.1.2)) (YieldsList-from_map g h road callee calls) in
     ran.2 ∙ ap sum (sym (map-id ran.0) ∙ items) ∙ sum_below h n
+
+-- what `from_fn` gives at each place, where its calls leave the closure as it was
+module _ {F B : Type 0} {g : Mut F (ℕ × Unit {0}) B} (f : F) (P : ℕ → B → Type 0) where
+  made_from : ((x : ℕ) (y : B) (q : F) → Called g f (x, tt) y q → (q ≡ f) × P x y) → (ys : List B) (d : B) (i n : ℕ) (p : F) → p ≡ f → IsFromFnResultFrom g p ys i n → (k : ℕ) → i ≤ k → k < i + n → P k (get_or ys k d)
+  made_from calls ys d i zero p e h k low high = absurd (omega arith)
+  made_from calls ys d i (suc n) p e h k low high =
+      let here = calls i h.1 h.0 (subst (λ r. Called g r (i, tt) h.1 h.0) e h.3) in
+      elim (cases_eq k i) [
+        | inl same ↦ subst (λ j. P j (get_or ys j d)) (sym same) (subst (P i) (sym (h.2.1 d)) here.1)
+        | inr other ↦ made_from calls ys d (i + 1) n h.0 here.0 h.4 k (omega arith) (omega arith)
+      ]
+
+pub made_at : {F B : Type 0} {g : Mut F (ℕ × Unit {0}) B} (f : F) (P : ℕ → B → Type 0) (ys : List B) (d : B) (n : ℕ) → IsFromFnResult g f ys n →
+    ((x : ℕ) (y : B) (q : F) → Called g f (x, tt) y q → (q ≡ f) × P x y) → (k : ℕ) → k < n → P k (get_or ys k d)
+made_at f P ys d n made calls k lt = made_from f P calls ys d 0 n f refl made.each k (omega arith) (omega arith)

@@ -1,6 +1,4 @@
 ghost use Rattle.std.specs.Prelude.{◌≡◌, ℕ, ◌*◌, ◌<◌, ◌≤◌, if◌then◌else◌, slice_index_or};
-ghost use Rattle.prices.specs.Block.{price_at};
-ghost use Rattle.prices.specs.Asset.{offered};
 ghost use Rattle.hour.specs.declared.instruction.Instruction.TheVariants.{Free};
 ghost use Rattle.hour.specs.Instruction.{terms_of};
 ghost use Rattle.hour.specs.Figure.{matched_kwh, asset_figure, figure_at, owned, figure_of, listed};
@@ -27,8 +25,7 @@ pub enum Figure {
 // Matched kWh of an asset.
 fn matched_kwh(instructions: &[Instruction; 64], asset: u32) -> u64
     requires { (k : ℕ) → (terms_of (slice_index_or instructions.now k Free)).kwh ≤ 1000000 }
-    ensures value { result ≡ matched_kwh instructions.now asset }
-    ensures bound { result ≤ 64000000 }
+    ensures { result ≡ matched_kwh instructions.now asset }
 {
     instructions
         .iter()
@@ -38,12 +35,7 @@ fn matched_kwh(instructions: &[Instruction; 64], asset: u32) -> u64
 
 // A figure of an enrolled asset.
 fn asset_figure(figure: Figure, price: u32, asset: &Asset, reading: u32, matched: u64) -> u64
-    requires reading { reading ≤ 1000000 }
-    requires matched { matched ≤ 64000000 }
-    requires price { price ≤ 100000 }
-    requires offers { (j : ℕ) → price_at (offered asset.now) j ≤ 99999 }
-    ensures value { result ≡ asset_figure figure price asset.now reading matched }
-    ensures bound { result ≤ largest_figure }
+    ensures { result ≡ asset_figure figure price asset.now reading matched }
 {
     match (figure, asset.kind.is_source()) {
         (Figure::Bought, true) | (Figure::Sold, false) => u64::from(reading),
@@ -69,8 +61,7 @@ impl Valuation<'_> {
     // A figure of the asset at a place.
     fn figure_at(&self, figure: Figure, place: usize) -> u64
         requires { place < 64 }
-        ensures value { result ≡ figure_at figure self.now.price self.now.book.now place }
-        ensures bound { result ≤ largest_figure }
+        ensures { result ≡ figure_at figure self.now.price self.now.book.now place }
     {
         match &self.book.market.schedule.assets[place] {
             Some(asset) => asset_figure(
@@ -87,8 +78,7 @@ impl Valuation<'_> {
     // A figure of the asset at a place if the participant owns it, else 0.
     fn owned_figure(&self, figure: Figure, participant: u32, place: usize) -> u64
         requires { place < 64 }
-        ensures value { result ≡ (if owned self.now.book.now.market participant place then figure_at figure self.now.price self.now.book.now place else 0) }
-        ensures bound { result ≤ largest_figure }
+        ensures { result ≡ (if owned self.now.book.now.market participant place then figure_at figure self.now.price self.now.book.now place else 0) }
     {
         if is_owned(&self.book.market, participant, place) {
             self.figure_at(figure, place)

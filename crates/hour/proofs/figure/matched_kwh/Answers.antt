@@ -1,6 +1,6 @@
-use Rattle.std.proofs.Common.{◌≡◌, ◌≤◌, length, sym, ◌∙◌, subst, arith, rules}
+use Rattle.std.proofs.Common.{◌≡◌, ◌≤◌, length, ◌∙◌, arith, rules}
 use Rattle.std.specs.List.{sum_by}
-use Rattle.hour.specs.Figure.{matched_by, matched_kwh}
+use Rattle.hour.specs.Figure.{matched_by}
 use Rattle.hour.proofs.Limits.{matched_all, matched_limit}
 use Rattle.hour.proofs.figure.matched_kwh.Goals as goal
 
@@ -15,5 +15,4 @@ pub returns : goal.returns
 returns c =
     let long : length c.args.instructions.now ≡ 64 = search rules in
     let summed : c.sum.result ≡ sum_by (λ i. matched_by i c.args.asset) c.args.instructions.now = search rules in
-    let value : c.sum.result ≡ matched_kwh c.args.instructions.now c.args.asset = summed ∙ matched_all c.args.instructions.now c.args.asset long in
-    record { value = value; bound = omega (arith, value, matched_limit c.args.instructions.now c.args.asset c.requires) }
+    summed ∙ matched_all c.args.instructions.now c.args.asset long

@@ -1,16 +1,20 @@
-use Rattle.std.proofs.Common.{◌≡◌, ℕ, ◌*◌, ◌≤◌, cond, refl, arith, rules}
+use Rattle.std.proofs.Common.{◌≡◌, ℕ, cond, refl, arith, rules}
 use borrow.Author.Tests.{tests}
 use Rattle.std.proofs.lemmas.Iterator.{YieldsList-from_range}
 use Rattle.std.proofs.lemmas.Iterator.Adapters.{fits_from_length, at_most_from_yields_List}
 use Rattle.hour.specs.Figure.{owned, figure_at, figure_of}
-use Rattle.hour.specs.Range.{largest_figure}
 use Rattle.hour.proofs.Places.{sum_of_range}
-use Rattle.hour.proofs.Limits.{figure_limit}
+use Rattle.hour.proofs.Limits.{owned_limit, figure_limit}
 use Rattle.hour.proofs.valuation.Valuation.figure_of.Goals as goal
 
 pub sum-requires-clause-fits : goal.sum-requires-clause-fits
 sum-requires-clause-fits c =
-    fits_from_length _ _ 64 18446744073709551616 (at_most_from_yields_List (YieldsList-from_range 0 64 64 c.map.ensures.source refl) (omega arith)) c.map.ensures.closure (omega arith) (λ x r q k. search (rules, tests))
+    let v = c.args.self.now in
+    let f = λ (place : ℕ). cond (owned v.book.now.market c.args.participant place) (figure_at c.args.figure v.price v.book.now place) 0 in
+    fits_from_length _ _ 64 18446744073709551616 (at_most_from_yields_List (YieldsList-from_range 0 64 64 c.map.ensures.source refl) (omega arith)) c.map.ensures.closure (omega arith)
+    (λ x r q k.
+    let same : (q ≡ _) × (r ≡ f x) = search rules in
+    (same.0, omega (arith, same.1, owned_limit v.price v.book.now v.ranged v.price_limit c.args.figure c.args.participant x)))
 
 pub returns : goal.returns
 unfolding figure_of

@@ -1,8 +1,9 @@
 -- What holds of the tables after a call that is accepted or refused. Assumes nothing.
-use Rattle.std.proofs.Common.{◌≡◌, ℕ, zero, suc, Bool, true, false, cond, List, [], ◌∷◌, get_or, set, is_ok, Ok, Err, Result, sym, refl, ◌∙◌, subst, arith}
+use Rattle.std.proofs.Common.{◌≡◌, ℕ, zero, suc, Bool, true, false, cond, List, [], ◌∷◌, get_or, set, is_ok, Ok, Err, Result, sym, refl, ◌∙◌, subst, arith, ◌-◌, ◌<◌, ap}
 use Rattle.std.proofs.lemmas.Bool.{cond-true, both_ways}
+use Rattle.std.proofs.lemmas.Bool.Decides.{nat_tests}
 use Rattle.hour.specs.declared.fault.Fault.{Fault}
-use Rattle.hour.specs.Reason.{Reason, first_fitting}
+use Rattle.hour.specs.Reason.{Reason, first_fitting, answer, outside}
 use Rattle.hour.specs.Market.{outcome}
 
 module _ {A T : Type 0} (r : Result T Fault) (changed before after : A) (state : after ≡ outcome r changed before) where
@@ -38,6 +39,14 @@ none_fits (reason ∷ rest) otherwise ok = at reason.fits refl ok (none_fits res
     at : (b : Bool) → reason.fits ≡ b → is_ok (cond b (Err reason.fault) (first_fitting rest otherwise)) ≡ true → (is_ok (first_fitting rest otherwise) ≡ true → NoneFits rest) → (reason.fits ≡ false) × NoneFits rest
     at true e said more = absurd (both_ways _ refl said)
     at false e said more = (e, more said)
+
+-- none of an accepted call's reasons fits
+pub accepted_none : (r : Result (Unit {0}) Fault) (reasons : List Reason) → r ≡ answer reasons → is_ok r ≡ true → NoneFits reasons
+accepted_none r reasons said ok = none_fits reasons (Ok tt) (ap is_ok (sym said) ∙ ok)
+
+-- a number from 1 to 64 has a place in its table
+pub place_inside : (number : ℕ) → outside 1 64 number ≡ false → number - 1 < 64
+place_inside number inside = grind (arith, nat_tests)
 
 -- what holds of a new element and of every old one holds of every element after the write
 pub getD_set_has : {A : Type 0} (P : A → Type 0) (xs : List A) (i k : ℕ) (x d : A) → P x → P (get_or xs k d) → P (get_or (set xs i x) k d)

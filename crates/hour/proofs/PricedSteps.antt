@@ -1,8 +1,7 @@
 -- What is true of the tables after meter, propose, confirm and withdraw. Assumes nothing.
-use Rattle.std.proofs.Common.{◌≡◌, ℕ, ◌-◌, ◌<◌, ◌≤◌, true, false, not, ◌⊎◌, List, is_some, is_ok, Ok, Result, unwrap_or, sym, refl, ap, ◌∙◌, subst, inl, inr, arith}
+use Rattle.std.proofs.Common.{◌≡◌, ℕ, ◌-◌, ◌<◌, ◌≤◌, true, false, not, ◌⊎◌, is_some, is_ok, Result, unwrap_or, sym, refl, ap, ◌∙◌, subst, inl, inr, arith}
 use Rattle.std.proofs.lemmas.List.{length-set, get_or-set_same, get_or-set_other}
 use Rattle.std.proofs.lemmas.Bool.{both_ways, not-false, eqb-true, or_cases, ltb-false}
-use Rattle.std.proofs.lemmas.Bool.Decides.{nat_tests}
 use Rattle.hour.specs.declared.fault.Fault.{Fault}
 use Rattle.hour.specs.declared.record.Record.{Record}
 use Rattle.hour.specs.declared.book.Book.{Book}
@@ -10,21 +9,14 @@ use Rattle.hour.specs.declared.instruction.Terms.{Terms}
 use Rattle.hour.specs.declared.instruction.Instruction.{Instruction}
 use Rattle.hour.specs.declared.instruction.Instruction.TheVariants.{Free, Proposed, Matched}
 use Rattle.hour.specs.declared.instruction.Event.TheVariants.{Propose, Confirm, Withdraw}
-use Rattle.hour.specs.Reason.{Reason, answer, outside}
+use Rattle.hour.specs.Reason.{answer, outside}
 use Rattle.hour.specs.Instruction.{next_stage, terms_of}
 use Rattle.hour.specs.Market.{outcome, record_at, no_record}
 use Rattle.hour.specs.Run.{PricedTables}
 use Rattle.hour.specs.Book.{FullBook, instruction_at, joined_by, joins, with_instruction, terms, meter_reasons, metered, propose_reasons, proposed, confirm_reasons, confirmed, withdraw_reasons, withdrawn}
 use Rattle.hour.specs.Priced.{OnlyReading, Metering, OnlyInstruction, Joined, Proposal, Confirmation, Withdrawal}
 use Rattle.hour.proofs.Joining.{joined_parts, proposed_joins, still_joined, freed}
-use Rattle.hour.proofs.Outcomes.{after_if, after_has, accepted, NoneFits, none_fits, getD_set_has}
-
-range : (number : ℕ) → outside 1 64 number ≡ false → number - 1 < 64
-range number inside = grind (arith, nat_tests)
-
--- an accepted call's reasons, none of which fits
-accepted_none : (r : Result (Unit {0}) Fault) (reasons : List Reason) → r ≡ answer reasons → is_ok r ≡ true → NoneFits reasons
-accepted_none r reasons said ok = none_fits reasons (Ok tt) (ap is_ok (sym said) ∙ ok)
+use Rattle.hour.proofs.Outcomes.{after_if, after_has, accepted, NoneFits, accepted_none, place_inside, getD_set_has}
 
 module _ (before : Book) (asset kwh : ℕ) (r : Result (Unit {0}) Fault) (after : Book)
     (said : r ≡ answer (meter_reasons before asset kwh)) (state : after ≡ outcome r (metered before asset kwh) before) where
@@ -55,7 +47,7 @@ module _ (before : Book) (asset kwh : ℕ) (r : Result (Unit {0}) Fault) (after 
     answer = said;
     topmost = (omega arith, (omega arith, (omega arith, tt)));
     state = state;
-    reading = λ ok. ap (λ b. (record_at b.market (asset - 1)).reading) (accepted r _ _ _ state ok) ∙ ap (λ (e : Record). e.reading) (get_or-set_same before.market.records (asset - 1) _ no_record (subst (λ n. asset - 1 < n) (sym full.2) (range asset (meter_none ok).1.0)));
+    reading = λ ok. ap (λ b. (record_at b.market (asset - 1)).reading) (accepted r _ _ _ state ok) ∙ ap (λ (e : Record). e.reading) (get_or-set_same before.market.records (asset - 1) _ no_record (subst (λ n. asset - 1 < n) (sym full.2) (place_inside asset (meter_none ok).1.0)));
     others = after_has r _ _ _ state (λ b. OnlyReading before b (asset - 1)) changed same;
   }
     where
@@ -98,7 +90,7 @@ step_kept b place i kept good = (
 
 -- the instruction that is written is the one then found
 step_at : (b : Book) (number : ℕ) (i : Instruction) → FullBook b → outside 1 64 number ≡ false → instruction_at (with_instruction b (number - 1) i) (number - 1) ≡ i
-step_at b number i full inside = get_or-set_same b.instructions (number - 1) i Free (subst (λ n. number - 1 < n) (sym full.3) (range number inside))
+step_at b number i full inside = get_or-set_same b.instructions (number - 1) i Free (subst (λ n. number - 1 < n) (sym full.3) (place_inside number inside))
 
 module _ (before : Book) (number source sink kwh : ℕ) (r : Result (Unit {0}) Fault) (after : Book)
     (said : r ≡ answer (propose_reasons before number source sink kwh)) (state : after ≡ outcome r (proposed before number source sink kwh) before) where

@@ -1,28 +1,14 @@
 -- When a block list keeps the rules of an offer or a bid. Assumes nothing.
-use Rattle.std.proofs.Common.{◌≡◌, ℕ, zero, suc, ◌≤◌, Bool, true, false, ◌&&◌, leb, List, length, get_or, take, sym, refl, ap, ◌∙◌, subst, inl, inr, arith}
-use native.Mathlib.Numerals.{suc-eq-add-one}
+use Rattle.std.proofs.Common.{◌≡◌, ℕ, ◌≤◌, true, false, ◌&&◌, leb, List, length, sym, refl, subst, inl, inr, arith}
 use Rattle.std.specs.List.{list_all}
-use Rattle.std.proofs.lemmas.List.Folds.{list_all_more}
 use Rattle.std.proofs.lemmas.Bool.{and_parts, and_left, cases_lt, leb-true}
-use Rattle.std.proofs.lemmas.List.{get_or_past, take_all}
+use Rattle.std.proofs.lemmas.List.{get_or_past}
 use Rattle.prices.specs.declared.block.Block.{Block}
 use Rattle.prices.specs.declared.kind.Kind.{Kind}
 use Rattle.prices.specs.Block.{no_block, price_at, ahead}
 use Rattle.margins.specs.Order.{every, ordered_for}
-use Rattle.margins.proofs.Ordering.{every_at}
+use Rattle.margins.proofs.Ordering.{every_at, every_list}
 use Rattle.hour.specs.Blocks.{fair_block, fair_at, sound_blocks}
-
--- a test of all elements by their places is the test of all elements
-every_front : {A : Type 0} (p : A → Bool) (xs : List A) (d : A) (n : ℕ) → n ≤ length xs → every (λ k. p (get_or xs k d)) n ≡ list_all p (take n xs)
-unfolding every
-every_front p xs d zero le = refl
-every_front p xs d (suc n) le =
-    ap (λ b. b && p (get_or xs n d)) (every_front p xs d n (omega arith))
-    ∙ sym (list_all_more p xs n d (omega arith))
-    ∙ ap (λ m. list_all p (take m xs)) (sym (suc-eq-add-one n))
-
-pub every_list : {A : Type 0} (p : A → Bool) (xs : List A) (d : A) → every (λ k. p (get_or xs k d)) (length xs) ≡ list_all p xs
-every_list p xs d = every_front p xs d (length xs) (omega arith) ∙ ap (list_all p) (take_all (length xs) xs (omega arith))
 
 module _ (kind : Kind) (blocks : List Block) where
   -- the rules that are left once a list has 1 to 7 blocks

@@ -1,29 +1,22 @@
 -- What is true of the tables after each trading call. Assumes nothing.
-use Rattle.std.proofs.Common.{◌≡◌, ℕ, zero, suc, ◌-◌, ◌<◌, ◌≤◌, true, false, not, List, length, get_or, set, replicate, is_some, is_ok, Some, None, Ok, Option, Result, unwrap_or, sym, refl, ap, ◌∙◌, subst, inl, inr, arith}
+use Rattle.std.proofs.Common.{◌≡◌, ℕ, zero, suc, ◌-◌, ◌<◌, ◌≤◌, true, false, not, List, length, get_or, set, replicate, is_some, is_ok, Some, None, Option, Result, unwrap_or, sym, refl, ap, ◌∙◌, subst, inl, inr, arith}
 use Rattle.std.proofs.lemmas.List.{length-set, get_or-set_same, get_or-set_other}
 use Rattle.std.proofs.lemmas.Bool.{cases_lt, not-false, cond-true, cond-false, lt-ltb, le-ltb, both_ways}
 use Rattle.prices.specs.declared.block.Block.{Block}
 use Rattle.prices.specs.Block.{price_at}
 use Rattle.prices.proofs.Filling.{listed_block_list}
 use Rattle.hour.proofs.Soundness.{sound_prices, sound_few}
-use Rattle.std.proofs.lemmas.Bool.Decides.{nat_tests}
 use Rattle.prices.specs.declared.asset.Asset.{Asset}
 use Rattle.hour.specs.declared.fault.Fault.{Fault}
 use Rattle.hour.specs.declared.record.Record.{Record}
 use Rattle.hour.specs.declared.market.Market.{Market}
-use Rattle.hour.specs.Reason.{Reason, answer, outside}
+use Rattle.hour.specs.Reason.{answer}
 use Rattle.hour.specs.Minute.{level_from, mark_between}
 use Rattle.hour.specs.Blocks.{sound_blocks}
 use Rattle.hour.specs.Market.{OpenTables, empty_market, asset_at, record_at, no_record, blocks_of, blocks_at, kind_in, outcome, enrol_reasons, enrolled, offer_reasons, offering, offered_blocks, order_reasons, levelled, ordered, shed_reasons, shed}
 use Rattle.hour.specs.Trading.{OnlyRow, Enrolled, Shed, Offering, Instructed, level_of, level_at}
-use Rattle.hour.proofs.Outcomes.{after_if, after_has, accepted, untouched, NoneFits, none_fits, getD_set_has}
+use Rattle.hour.proofs.Outcomes.{after_if, after_has, accepted, untouched, NoneFits, accepted_none, place_inside, getD_set_has}
 use Rattle.hour.proofs.Tables.{length_table, getD_table}
-
-range : (number : ℕ) → outside 1 64 number ≡ false → number - 1 < 64
-range number inside = grind (arith, nat_tests)
-
-said_none : (r : Result (Unit {0}) Fault) (reasons : List Reason) → r ≡ answer reasons → is_ok r ≡ true → NoneFits reasons
-said_none r reasons said ok = none_fits reasons (Ok tt) (ap is_ok (sym said) ∙ ok)
 
 -- tables with another asset and another record at one place
 abbrev changed_row : Market → ℕ → Option Asset → Record → Market
@@ -67,7 +60,7 @@ module _ (before : Market) (asset letter owner : ℕ) (r : Result (Unit {0}) Fau
   }
     where
       inside : is_ok r ≡ true → asset - 1 < 64
-      inside ok = range asset (said_none r (enrol_reasons before asset letter owner) said ok).0
+      inside ok = place_inside asset (accepted_none r (enrol_reasons before asset letter owner) said ok).0
 
 module _ (before : Market) (asset : ℕ) (blocks : List Block) (r : Result (Unit {0}) Fault) (after : Market)
     (kept : OpenTables before) (said : r ≡ answer (offer_reasons before asset blocks)) (state : after ≡ outcome r (offered_blocks before asset blocks) before) where
@@ -75,7 +68,7 @@ module _ (before : Market) (asset : ℕ) (blocks : List Block) (r : Result (Unit
   old = asset_at before (asset - 1)
 
   offer_none : is_ok r ≡ true → NoneFits (offer_reasons before asset blocks)
-  offer_none ok = said_none r (offer_reasons before asset blocks) said ok
+  offer_none ok = accepted_none r (offer_reasons before asset blocks) said ok
 
   sound : is_ok r ≡ true → sound_blocks (kind_in old) blocks ≡ true
   sound ok = not-false _ (offer_none ok).1.1.1.0
@@ -113,7 +106,7 @@ module _ (before : Market) (asset : ℕ) (blocks : List Block) (r : Result (Unit
     topmost = (omega arith, (omega arith, (omega arith, tt)));
     state = state;
     offered_now = λ ok. ap (λ m. blocks_at m (asset - 1)) (accepted r _ _ _ state ok)
-        ∙ ap blocks_of (get_or-set_same before.schedule.assets (asset - 1) (offering old blocks) None (subst (λ n. asset - 1 < n) (sym kept.0.0) (range asset (offer_none ok).0)))
+        ∙ ap blocks_of (get_or-set_same before.schedule.assets (asset - 1) (offering old blocks) None (subst (λ n. asset - 1 < n) (sym kept.0.0) (place_inside asset (offer_none ok).0)))
         ∙ offered_then ok;
     kind = after_has r _ _ _ state (λ m. kind_in (asset_at m (asset - 1)) ≡ kind_in old) (getD_set_has (λ a. kind_in a ≡ kind_in old) before.schedule.assets (asset - 1) (asset - 1) _ None (same_kind old) refl) refl;
     levels = λ m. after_has r _ _ _ state (λ x. level_at x (asset - 1) m ≡ level_of old m) (getD_set_has (λ a. level_of a m ≡ level_of old m) before.schedule.assets (asset - 1) (asset - 1) _ None (same_level m old) refl) refl;
@@ -132,7 +125,7 @@ module _ (before : Market) (asset minute level : ℕ) (r : Result (Unit {0}) Fau
   new_asset = levelled then_old minute level
 
   order_none : is_ok r ≡ true → NoneFits (order_reasons before asset minute level)
-  order_none ok = said_none r (order_reasons before asset minute level) said ok
+  order_none ok = accepted_none r (order_reasons before asset minute level) said ok
 
   blocks_stay : (a : Option Asset) → blocks_of (levelled a minute level) ≡ blocks_of a
   blocks_stay None = refl
@@ -178,7 +171,7 @@ module _ (before : Market) (asset minute level : ℕ) (r : Result (Unit {0}) Fau
   }
     where
       inside : is_ok r ≡ true → asset - 1 < 64
-      inside ok = range asset (order_none ok).0
+      inside ok = place_inside asset (order_none ok).0
 
 module _ (before : Market) (first end : ℕ) (r : Result (Unit {0}) Fault) (after : Market)
     (kept : OpenTables before) (said : r ≡ answer (shed_reasons first end)) (state : after ≡ outcome r (shed before first end) before) where

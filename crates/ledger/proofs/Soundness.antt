@@ -1,5 +1,5 @@
 -- What every list of calls keeps true of the tables: owners in range, joined instructions, the same participants listed. Assumes nothing.
-use Rattle.std.proofs.Common.{◌≡◌, ℕ, zero, suc, ◌-◌, ◌≤◌, true, false, cond, ◌&&◌, eqb, ltb, List, [], ◌∷◌, length, get_or, replicate, is_some, is_ok, None, Ok, Option, Result, sym, refl, ap, ◌∙◌, subst, inl, inr, arith}
+use Rattle.std.proofs.Common.{◌≡◌, ℕ, zero, suc, ◌-◌, ◌≤◌, true, false, cond, ◌&&◌, eqb, ltb, List, [], ◌∷◌, length, get_or, replicate, is_some, is_ok, None, Option, Result, sym, refl, ap, ◌∙◌, subst, inl, inr, arith}
 use Rattle.std.proofs.lemmas.List.{length-set}
 use Rattle.std.proofs.lemmas.Bool.{cases_eq, cases_Bool, cond-false, cond_both, not-false, both_ways}
 use Rattle.std.proofs.lemmas.Bool.Decides.{nat_tests}
@@ -11,14 +11,14 @@ use Rattle.hour.specs.declared.book.Book.{Book}
 use Rattle.hour.specs.declared.slip.Slip.{Slip}
 use Rattle.hour.specs.declared.instruction.Instruction.{Instruction}
 use Rattle.hour.specs.declared.instruction.Instruction.TheVariants.{Free}
-use Rattle.hour.specs.Reason.{Reason, answer, outside}
+use Rattle.hour.specs.Reason.{outside}
 use Rattle.hour.specs.Market.{asset_at, record_at, outcome, no_record, enrol_reasons, enrolled, offer_reasons, offered_blocks, order_reasons, ordered}
 use Rattle.hour.specs.Trading.{OnlyRow}
 use Rattle.hour.specs.Book.{instruction_at, joins, terms, with_instruction, propose_reasons, proposed, confirmed, withdrawn}
 use Rattle.hour.specs.Priced.{Metering}
 use Rattle.hour.specs.Figure.{owned, listed}
 use Rattle.hour.specs.Run.{slip_fits}
-use Rattle.hour.proofs.Outcomes.{after_if, after_has, NoneFits, none_fits, getD_set_has}
+use Rattle.hour.proofs.Outcomes.{after_if, after_has, accepted_none, getD_set_has}
 use Rattle.hour.proofs.Joining.{proposed_joins, proposed_if, still_joined, freed}
 use Rattle.ledger.specs.Trade.{Trade, enrol, offer, order, shedding, LivedTrade, TradeMade, Traded}
 use Rattle.ledger.specs.Call.{Call, meter, propose, confirm, withdraw, draw, post, void, Answer, Lived, Made, Leads}
@@ -35,9 +35,6 @@ Owners m = (k : ℕ) → is_some (asset_at m k) ≡ true → InRange (record_at 
 pub record SoundMarket (m : Market) : Type 0 where
   pub full : length m.schedule.assets ≡ 64
   pub owners : Owners m
-
-none_of : (r : Result (Unit {0}) Fault) (reasons : List Reason) → r ≡ answer reasons → is_ok r ≡ true → NoneFits reasons
-none_of r reasons said ok = none_fits reasons (Ok tt) (ap is_ok (sym said) ∙ ok)
 
 -- tables that change in one row at most keep their owners if the row does
 row_owners : (before after : Market) (place : ℕ) → OnlyRow before after place → (is_some (asset_at after place) ≡ true → InRange (record_at after place).owner) → Owners before → Owners after
@@ -59,7 +56,7 @@ trade_sound (enrol asset letter owner) r before after made sound = record {
   full = after_has r (enrolled before asset letter owner) before after made.state (λ m. length m.schedule.assets ≡ 64) (length-set before.schedule.assets _ _ ∙ sound.full) sound.full;
   owners = row_owners before after (asset - 1) made.others
       (λ some. elim (cases_Bool (is_ok r)) [
-        | inl ok ↦ subst (λ entry. InRange entry.owner) (sym (made.enrolled_record ok)) (in_range owner (none_of r (enrol_reasons before asset letter owner) made.answer ok).1.1.0)
+        | inl ok ↦ subst (λ entry. InRange entry.owner) (sym (made.enrolled_record ok)) (in_range owner (accepted_none r (enrol_reasons before asset letter owner) made.answer ok).1.1.0)
         | inr bad ↦
             let same = refused r (enrolled before asset letter owner) before after made.state bad in
             subst (λ m. is_some (asset_at m (asset - 1)) ≡ true → InRange (record_at m (asset - 1)).owner) (sym same) (sound.owners (asset - 1)) some
@@ -70,7 +67,7 @@ trade_sound (offer asset blocks) r before after made sound = record {
   full = after_has r (offered_blocks before asset blocks) before after made.state (λ m. length m.schedule.assets ≡ 64) (length-set before.schedule.assets _ _ ∙ sound.full) sound.full;
   owners = row_owners before after (asset - 1) made.others
       (λ some. elim (cases_Bool (is_ok r)) [
-        | inl ok ↦ subst (λ rs. InRange (get_or rs (asset - 1) no_record).owner) (sym made.records) (sound.owners (asset - 1) (not-false _ (none_of r (offer_reasons before asset blocks) made.answer ok).1.0))
+        | inl ok ↦ subst (λ rs. InRange (get_or rs (asset - 1) no_record).owner) (sym made.records) (sound.owners (asset - 1) (not-false _ (accepted_none r (offer_reasons before asset blocks) made.answer ok).1.0))
         | inr bad ↦
             let same = refused r (offered_blocks before asset blocks) before after made.state bad in
             subst (λ m. is_some (asset_at m (asset - 1)) ≡ true → InRange (record_at m (asset - 1)).owner) (sym same) (sound.owners (asset - 1)) some
@@ -81,7 +78,7 @@ trade_sound (order asset minute level) r before after made sound = record {
   full = after_has r (ordered before asset minute level) before after made.state (λ m. length m.schedule.assets ≡ 64) (length-set before.schedule.assets _ _ ∙ sound.full) sound.full;
   owners = row_owners before after (asset - 1) made.others
       (λ some. elim (cases_Bool (is_ok r)) [
-        | inl ok ↦ subst InRange (sym made.owner) (sound.owners (asset - 1) (not-false _ (none_of r (order_reasons before asset minute level) made.answer ok).1.0))
+        | inl ok ↦ subst InRange (sym made.owner) (sound.owners (asset - 1) (not-false _ (accepted_none r (order_reasons before asset minute level) made.answer ok).1.0))
         | inr bad ↦
             let same = refused r (ordered before asset minute level) before after made.state bad in
             subst (λ m. is_some (asset_at m (asset - 1)) ≡ true → InRange (record_at m (asset - 1)).owner) (sym same) (sound.owners (asset - 1)) some
@@ -163,7 +160,7 @@ module _ (m : Market) where
   call_sound (propose number source sink kwh) r before after made sound =
       same_market m before after made.others.market
       (after_if r (proposed before number source sink kwh) before after made.state (λ b. (k : ℕ) → joins before.market.schedule.assets (instruction_at b k) ≡ true)
-      (λ ok. write_joins before.market.schedule.assets before (number - 1) _ (proposed_if before.market.schedule.assets (instruction_at before (number - 1)) (terms source sink kwh) (proposed_joins before number source sink kwh (none_of r (propose_reasons before number source sink kwh) made.answer ok))) sound.joined)
+      (λ ok. write_joins before.market.schedule.assets before (number - 1) _ (proposed_if before.market.schedule.assets (instruction_at before (number - 1)) (terms source sink kwh) (proposed_joins before number source sink kwh (accepted_none r (propose_reasons before number source sink kwh) made.answer ok))) sound.joined)
       sound.joined) sound
   call_sound (confirm number participant) r before after made sound =
       same_market m before after made.others.market

@@ -1,5 +1,5 @@
 -- Laws of sums over the numbers below a bound, natural and signed. Assumes nothing.
-use Rattle.std.proofs.Common.{◌≡◌, ℕ, zero, suc, ◌+◌, ◌*◌, ◌<◌, ◌≤◌, Bool, true, false, cond, ℤ, pos, ◌-ℤ◌, sym, refl, ap, ◌∙◌, inl, inr, mul-zero, mul-add, arith}
+use Rattle.std.proofs.Common.{◌≡◌, ℕ, zero, suc, ◌+◌, ◌*◌, ◌<◌, Bool, true, false, cond, ℤ, pos, ◌-ℤ◌, sym, refl, ap, ◌∙◌, inl, inr, mul-zero, mul-add, arith}
 use Rattle.std.proofs.lemmas.Int.{ints}
 use Rattle.std.proofs.lemmas.Bool.{cases_eq}
 use Rattle.prices.specs.Range.{total}
@@ -10,13 +10,6 @@ pub total_zero : (f : ℕ → ℕ) (n : ℕ) → ((k : ℕ) → k < n → f k �
 unfolding total
 total_zero f zero none = refl
 total_zero f (suc n) none = omega (arith, total_zero f n (λ k lt. none k (omega arith)), none n (omega arith))
-
--- a part is at most the sum
-pub part_le_total : (f : ℕ → ℕ) (n k : ℕ) → k < n → f k ≤ total f n
-unfolding total
-part_le_total f zero k lt = absurd (omega arith)
-part_le_total f (suc n) k lt =
-    elim (cases_eq k n) [ inl e ↦ omega (arith, ap f e) | inr ne ↦ omega (arith, part_le_total f n k (omega arith)) ]
 
 -- a sum of sums of two
 pub total_add : (f g : ℕ → ℕ) (n : ℕ) → total (λ k. f k + g k) n ≡ total f n + total g n

@@ -1,7 +1,10 @@
 -- A list whose neighbours are in order is in order throughout. Assumes nothing.
-use Rattle.std.proofs.Common.{◌≡◌, ℕ, zero, suc, ◌+◌, ◌-◌, ◌<◌, Bool, true, false, List, length, Decides, sym, refl, ap, ◌∙◌, subst, inl, inr, add-one, arith}
+use Rattle.std.proofs.Common.{◌≡◌, ℕ, zero, suc, ◌+◌, ◌-◌, ◌<◌, ◌≤◌, Bool, true, false, ◌&&◌, List, length, get_or, take, Decides, sym, refl, ap, ◌∙◌, subst, inl, inr, add-one, arith}
 use Rattle.std.proofs.lemmas.Bool.{cases_eq, cases_Bool, both_ways, and_parts, and_from, ltb-true, lt-ltb}
-use Rattle.std.specs.List.{IsAllAdjacentAnswer}
+use native.Mathlib.Numerals.{suc-eq-add-one}
+use Rattle.std.proofs.lemmas.List.{take_all}
+use Rattle.std.proofs.lemmas.List.Folds.{list_all_more}
+use Rattle.std.specs.List.{list_all, IsAllAdjacentAnswer}
 use Rattle.prices.specs.declared.block.Block.{Block}
 use Rattle.prices.specs.declared.kind.Kind.{Kind}
 use Rattle.prices.specs.declared.kind.Kind.TheVariants.{Generator, Import, Load, Export}
@@ -10,13 +13,17 @@ use Rattle.prices.specs.Kind.{source}
 use Rattle.margins.specs.Side.{StrictOrder, lower_first, higher_first}
 use Rattle.margins.specs.Order.{every, next_in_order, ordered, InOrder, Rising, Falling, InKindsOrder}
 
-pub every_none : (p : ℕ → Bool) → every p 0 ≡ true
+-- a test of all elements by their places is the test of all elements
+every_front : {A : Type 0} (p : A → Bool) (xs : List A) (d : A) (n : ℕ) → n ≤ length xs → every (λ k. p (get_or xs k d)) n ≡ list_all p (take n xs)
 unfolding every
-every_none p = refl
+every_front p xs d zero le = refl
+every_front p xs d (suc n) le =
+    ap (λ b. b && p (get_or xs n d)) (every_front p xs d n (omega arith))
+    ∙ sym (list_all_more p xs n d (omega arith))
+    ∙ ap (λ m. list_all p (take m xs)) (sym (suc-eq-add-one n))
 
-pub every_more : (p : ℕ → Bool) (n : ℕ) → every p n ≡ true → p n ≡ true → every p (n + 1) ≡ true
-unfolding every
-every_more p n all here = rw add-one (and_from _ _ all here)
+pub every_list : {A : Type 0} (p : A → Bool) (xs : List A) (d : A) → every (λ k. p (get_or xs k d)) (length xs) ≡ list_all p xs
+every_list p xs d = every_front p xs d (length xs) (omega arith) ∙ ap (list_all p) (take_all (length xs) xs (omega arith))
 
 -- what passes below n passes at each number below n
 pub every_at : (p : ℕ → Bool) (n : ℕ) → every p n ≡ true → (k : ℕ) → k < n → p k ≡ true

@@ -9,14 +9,14 @@ use Rattle.std.proofs.lemmas.Fmt.{decimal_nonempty}
 use Rattle.std.proofs.lemmas.List.{append_assoc, append-nil, length-append, drop_more, length-drop, same_from_push}
 use Rattle.std.proofs.lemmas.List.Edits.{between_none, between_more}
 use Rattle.file.specs.Number.{Word, Longest}
-use Rattle.file.specs.Place.{Stands, Breaks, BreaksAt, ByteAt, Behind, StandsBefore}
+use Rattle.file.specs.Place.{Breaks, BreaksAt, ByteAt, Behind, StandsBefore}
 use Rattle.file.specs.Field.{allowed, NumberField, LetterField, Capital}
 use Rattle.file.specs.declared.broken.BrokenForm.{BrokenForm}
 use Rattle.file.specs.declared.field.End.{End}
 use Rattle.file.specs.declared.field.End.TheVariants.{Colon, Comma, Line, CommaOrLine}
 use Rattle.file.specs.declared.position.Position.{Position}
 use Rattle.file.proofs.Numbers.{digit_next}
-use Rattle.file.proofs.Places.{overlap, nothing_stands, stands_more}
+use Rattle.file.proofs.Places.{overlap, stands_more}
 
 -- no digit ends a field
 pub no_digit : (end : End) (byte : ℕ) → allowed end byte ≡ true → IsInRange 48 57 byte → ⊥
@@ -157,16 +157,6 @@ field_broken end file start value here broken l same e bad =
 
 one_byte : (file : List ℕ) (start : ℕ) → start < length file → between start (start + 1) file ≡ get_or file start 0 ∷ []
 one_byte file start inside = between_more file start start 0 (omega arith) inside ∙ ap (λ (t : List ℕ). t ++ get_or file start 0 ∷ []) (between_none file start)
-
-pub letter_stands : (file : List ℕ) (start letter : ℕ) (comma next : Position) → ByteAt file start letter → Behind file (start + 1) comma → ByteAt comma.file.now comma.at 44 → Behind comma.file.now (comma.at + 1) next →
-    StandsBefore file start next (letter ∷ 44 ∷ [])
-letter_stands file start letter comma next l b k n =
-    let at_comma : ByteAt file (start + 1) 44 = subst (λ (at : ℕ). ByteAt file at 44) b.at_is (subst (λ (f : List ℕ). ByteAt f comma.at 44) b.same k) in
-    let one : Stands file start (start + 1) (letter ∷ []) = stands_more file start start [] letter (start + 1) (nothing_stands file start start (omega (arith, l.inside)) refl) l.inside l.same refl in
-    record {
-      same = n.same ∙ b.same;
-      stands = stands_more file start (start + 1) (letter ∷ []) 44 next.at one at_comma.inside at_comma.same (omega (arith, n.at_is, b.at_is));
-    }
 
 -- no letter stands here
 letter_breaks : (file : List ℕ) (start : ℕ) → start ≤ length file → (start < length file → Capital (get_or file start 0) → ⊥) → BreaksAt LetterField file start start

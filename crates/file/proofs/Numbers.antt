@@ -1,14 +1,18 @@
 -- Decimal texts: their digits, their value, and how a number goes on or ends. Assumes nothing.
-use Rattle.std.proofs.Common.{◌≡◌, ℕ, zero, suc, ◌+◌, ◌-◌, ◌*◌, ◌/◌, ◌%◌, ◌^◌, ◌<◌, ◌≤◌, ◌⊎◌, List, [], ◌∷◌, ◌++◌, length, get_or, drop, decimal, sym, refl, ap, ◌∙◌, subst, inl, inr, ⊎_elim, arith, rules}
+use Rattle.std.proofs.Common.{◌≡◌, ℕ, zero, suc, ◌+◌, ◌-◌, ◌*◌, ◌/◌, ◌%◌, ◌^◌, ◌<◌, ◌≤◌, ◌⊎◌, List, [], ◌∷◌, ◌++◌, length, get_or, drop, decimal, sym, refl, ap, ◌∙◌, subst, inl, inr, ⊎_elim, arith, rules, MatchOption, Option, Bool, ltb}
+use Rattle.std.specs.Bool.{then_some}
 use Rattle.std.specs.Int.{IsInRange}
 use Rattle.std.specs.Str.Parse.{AllDigits}
 use Rattle.std.specs.List.{between}
 use Rattle.std.proofs.lemmas.Str.Parse.{IsNumeralModel, numerals_by_fold, tells_digits, digit_at, digits_value_short}
 use Rattle.std.proofs.lemmas.Fmt.{decimal_digit, decimal_step, length-decimal-le, first_decimal, digits_decimal, digits_value-decimal}
 use Rattle.std.proofs.lemmas.List.{length-append, length-drop, get_or_at, get_or-drop, drop_more}
-use Rattle.std.proofs.lemmas.Bool.{cases_lt, cases_eq}
+use Rattle.std.proofs.lemmas.Bool.{cases_lt, cases_eq, lt-ltb, le-ltb}
 use Rattle.std.proofs.lemmas.List.Edits.{length-between, between_more, between_none}
-use Rattle.file.specs.Number.{Word, Started, Goes, Ends, Longest}
+use Rattle.file.specs.declared.position.Position.{Position}
+use Rattle.file.specs.Number.{Word, Started, Goes, Ends, Longest, StandsLongest}
+use Rattle.file.specs.Place.{Behind}
+use Rattle.file.specs.declared.number.Number.{Number}
 
 abbrev pub read_on : ℕ → List ℕ → ℕ
 read_on n [] = n
@@ -186,3 +190,34 @@ digits_longest file rest start value digits next e d at ends =
       longest = no_longer file start value (start + digits) (omega arith) d.within d.small (λ z. d.none (omega arith)) (λ some. d.same (omega arith)) (λ lt.
           subst (λ (m : ℕ). Ends value m (get_or file (start + digits) 0)) k (subst (λ (b : ℕ). Ends value digits b) (byte_of_rest file rest start digits e) (ends (omega (arith, long_rest file rest start e)))));
     })
+
+-- so many digits of a number stand up to a position
+pub record DigitsBefore (file : List ℕ) (start value digits : ℕ) (next : Position) : Type 0 where
+  pub same : next.file.now ≡ file
+  pub at_is : next.at ≡ start + digits
+  pub read : Digits file start value digits
+
+pub one_more_before : (file rest : List ℕ) (start value digits more : ℕ) (next after : Position) → rest ≡ drop start file → DigitsBefore file start value digits next → digits < length rest →
+    Goes value digits (get_or rest digits 0) more → Behind next.file.now (next.at + 1) after → DigitsBefore file start more (digits + 1) after
+one_more_before file rest start value digits more next after e d inside goes b =
+    record {
+      same = b.same ∙ d.same;
+      at_is = omega (arith, b.at_is, d.at_is);
+      read = one_more_digit file rest start value digits more e d.read inside goes;
+    }
+
+-- the longest number, or none where it has no digits
+pub number_found : (file : List ℕ) (start value digits : ℕ) (next : Position) (found : Option Number) → DigitsBefore file start value digits next → Longest file start value next.at →
+    found ≡ then_some (ltb start next.at) (record { value = value; next = next }) → MatchOption found (Longest file start 0 start) (λ number. StandsLongest file start number)
+number_found file start value digits next found d l e =
+    ⊎_elim
+    (λ (lt : start < next.at).
+    subst (λ (o : Option Number). MatchOption o (Longest file start 0 start) (λ number. StandsLongest file start number))
+    (sym (e ∙ ap (λ (b : Bool). then_some b (record { value = value; next = next })) (lt-ltb start next.at lt))) (record { same = d.same; some = lt; longest = l }))
+    (λ (le : next.at ≤ start).
+    let none : next.at ≡ start = omega (arith, l.order) in
+    let zero : value ≡ 0 = d.read.none (omega (arith, d.at_is)) in
+    subst (λ (o : Option Number). MatchOption o (Longest file start 0 start) (λ number. StandsLongest file start number))
+    (sym (e ∙ ap (λ (b : Bool). then_some b (record { value = value; next = next })) (le-ltb start next.at le)))
+    (subst (λ (n : ℕ). Longest file start 0 n) none (subst (λ (v : ℕ). Longest file start v next.at) zero l)))
+    (cases_lt start next.at)

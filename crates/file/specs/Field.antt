@@ -2,7 +2,7 @@
 use Rattle.std.specs.Prelude.{◌≡◌, ℕ, Bool, true, ◌||◌, List, [], ◌∷◌, ◌++◌, decimal, ◌==◌}
 use Rattle.std.specs.Int.{IsInRange}
 use Rattle.file.specs.Number.{Word}
-use Rattle.file.specs.Place.{StandsBefore}
+use Rattle.file.specs.Place.{ByteAt, StandsBefore}
 use Rattle.file.specs.declared.field.End.{End}
 use Rattle.file.specs.declared.field.End.TheVariants.{Colon, Comma, Line, CommaOrLine}
 use Rattle.file.specs.declared.field.Field.{Field}
@@ -22,6 +22,15 @@ pub record NumberField (end : End) (text : List ℕ) : Type 0 where
   pub word : Word value
   pub ends : allowed end byte ≡ true
   pub same : text ≡ decimal value ++ byte ∷ []
+
+-- a byte that may end a field stands at a place
+pub record EndAt (end : End) (file : List ℕ) (at byte : ℕ) : Type 0 where
+  pub here : ByteAt file at byte
+  pub ends : allowed end byte ≡ true
+
+-- no byte that may end a field stands at a place
+abbrev pub NoEnd : End → List ℕ → ℕ → Type 0
+NoEnd end file at = (byte : ℕ) → EndAt end file at byte → ⊥
 
 -- a number was read with the byte that ends it
 pub record ReadNumber (end : End) (file : List ℕ) (start : ℕ) (field : Field) : Type 0 where

@@ -2,6 +2,7 @@
 use Rattle.std.specs.Prelude.{◌≡◌, ℕ, ◌+◌, ◌-◌, ◌*◌, ◌^◌, ◌<◌, ◌≤◌, ◌⊎◌, List, ◌∷◌, ◌++◌, length, drop, decimal, ◌≢◌}
 use Rattle.std.specs.Int.{IsInRange}
 use Rattle.std.specs.List.{between}
+use Rattle.file.specs.declared.number.Number.{Number}
 
 -- a number of the file is at most 4,294,967,295
 abbrev pub Word : ℕ → Type 0
@@ -32,3 +33,9 @@ pub record Longest (file : List ℕ) (start value next : ℕ) : Type 0 where
   pub small : Word value
   pub same : start < next → between start next file ≡ decimal value
   pub longest : (byte n : ℕ) (later more : List ℕ) → Word n → drop next file ≡ byte ∷ later → decimal n ≢ between start next file ++ byte ∷ more
+
+-- the longest number of at least one digit stands up to a position
+pub record StandsLongest (file : List ℕ) (start : ℕ) (number : Number) : Type 0 where
+  pub same : number.next.file.now ≡ file
+  pub some : start < number.next.at
+  pub longest : Longest file start number.value number.next.at

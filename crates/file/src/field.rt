@@ -1,4 +1,4 @@
-ghost use Rattle.std.specs.Prelude.{◌≡◌, MatchResult};
+ghost use Rattle.std.specs.Prelude.{◌≡◌, MatchOption, MatchResult};
 ghost use Rattle.file.specs.Field.{allowed};
 
 use crate::broken::BrokenForm;
@@ -35,26 +35,35 @@ pub struct Field<'a> {
 }
 
 impl<'a> Position<'a> {
-    ghost use Rattle.file.specs.Field.{NumberField, ReadNumber, LetterField, ReadLetter};
+    ghost use Rattle.file.specs.Field.{NoEnd, EndAt, NumberField, ReadNumber, LetterField, ReadLetter};
     ghost use Rattle.file.specs.Place.{BreaksAt};
+
+    // The byte that stands here, if it may end a field.
+    fn end_byte(self, end: End) -> Option<u8>
+        ensures { MatchOption result (NoEnd end self.entry.file.now self.entry.at) (λ byte. EndAt end self.entry.file.now self.entry.at byte) }
+    {
+        let Some(byte) = self.byte() else {
+            return None;
+        };
+        if end.allows(byte) { Some(byte) } else { None }
+    }
 
     // Reads a number and the byte that ends it, or gives the place that breaks this form.
     pub fn field(self, end: End) -> Result<Field<'a>, BrokenForm>
         ensures { MatchResult result (λ field. ReadNumber end self.entry.file.now self.entry.at field) (λ broken. BreaksAt (NumberField end) self.entry.file.now self.entry.at broken.place) }
     {
-        let number = self.number();
+        let Some(number) = self.number() else {
+            return Err(self.broken());
+        };
         let next = number.next;
-        if self.at < next.at
-            && let Some(byte) = next.byte()
-            && end.allows(byte)
-        {
-            return Ok(Field {
-                value: number.value,
-                ends_line: byte == b'\n',
-                next: next.behind(1),
-            });
-        }
-        Err(next.broken())
+        let Some(byte) = next.end_byte(end) else {
+            return Err(next.broken());
+        };
+        Ok(Field {
+            value: number.value,
+            ends_line: byte == b'\n',
+            next: next.behind(1),
+        })
     }
 
     // Reads a letter from A to Z and the comma that ends it, or gives the place that breaks this form.

@@ -30,25 +30,21 @@ fn next_value(value: u32, digits: usize, byte: u8) -> Option<u32>
 }
 
 impl<'a> Position<'a> {
-    // Reads the longest number that stands here.
-    pub fn number(self) -> Number<'a>
-        ensures longest { Longest self.entry.file.now self.entry.at result.value result.next.at }
-        ensures same { result.next.file.now ≡ self.entry.file.now }
+    ghost use Rattle.file.specs.Number.{StandsLongest};
+
+    // Reads the longest number that stands here; none if no digit does.
+    pub fn number(self) -> Option<Number<'a>>
+        ensures { MatchOption result (Longest self.entry.file.now self.entry.at 0 self.entry.at) (λ number. StandsLongest self.entry.file.now self.entry.at number) }
     {
-        let rest = self.rest();
         let mut value = 0;
-        for (digits, byte) in rest.iter().enumerate() {
+        let mut next = self;
+        for (digits, byte) in self.rest().iter().enumerate() {
             let Some(more) = next_value(value, digits, *byte) else {
-                return Number {
-                    value,
-                    next: self.behind(digits),
-                };
+                break;
             };
             value = more;
+            next = next.behind(1);
         }
-        Number {
-            value,
-            next: self.behind(rest.len()),
-        }
+        (self.at < next.at).then_some(Number { value, next })
     }
 }

@@ -1,7 +1,6 @@
-ghost use Rattle.std.specs.Prelude.{◌≡◌, ℕ, true, false, if◌then◌else◌, MatchResult, OnOk, slice_index_or};
-ghost use Rattle.hour.specs.Book.{no_amounts};
+ghost use Rattle.std.specs.Prelude.{◌≡◌, true, false, if◌then◌else◌, MatchResult, OnOk};
 ghost use Rattle.hour.specs.Range.{Ranged};
-ghost use Rattle.hour.specs.Line.{Item, amount_of, Within};
+ghost use Rattle.hour.specs.Line.{AllWithin};
 ghost use Rattle.hour.specs.Run.{out_amounts, Drawing, Posting, Voiding, slip_fits, settled};
 ghost use Rattle.hour.specs.declared.fault.Fault.TheVariants.{ForeignSlip};
 
@@ -23,9 +22,9 @@ impl Book {
     // Draws a run by a rule: writes its lines into the caller's list and hands out its slip.
     pub fn draw<R: Apportion>(&mut self, rule: &R, lines: &mut [Line]) -> Result<Slip, Fault>
         requires ranged { Ranged self.old }
-        requires posted { (k : ℕ) (item : Item) → Within 10000000000000000 (amount_of item (slice_index_or self.old.posted k no_amounts)) }
+        requires posted { AllWithin self.old.posted }
         ensures drawing { Drawing (R.Apportion.meaning rule.now) self.old lines.old result self.new lines.new }
-        ensures within { OnOk result ((k : ℕ) (item : Item) → Within 10000000000000000 (amount_of item (slice_index_or (out_amounts self.new.out) k no_amounts))) }
+        ensures within { OnOk result (AllWithin (out_amounts self.new.out)) }
     {
         self.check_none_out()?;
         let participants = list_participants(&self.market);

@@ -3,6 +3,5 @@ pub mod Passing
 pub mod Trades
 pub mod Entries
 pub mod Openings
-pub mod Statements
 pub mod Outcomes
 pub mod Unique

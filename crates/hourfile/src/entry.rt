@@ -11,6 +11,7 @@ use hour::PricedHour;
 
 impl HourFile<'_> {
     // Makes the calls of the lines from the cursor on up to that of the rule; answers the cursor behind it, and the rule.
+    // The loop shares the read and the fault of a line with that of `trade_lines`; the calls answer otherwise, and it ends behind a line.
     pub fn enter_lines(
         self,
         hour: &mut PricedHour,

@@ -1,4 +1,4 @@
-use Rattle.hourfile.proofs.Openings.{closed, surplus, ended}
+use Rattle.hourfile.proofs.Openings.{closed, surplus}
 use Rattle.hourfile.proofs.Passing.{handed_on}
 use Rattle.hourfile.proofs.hour_file.HourFile.read_hour.Goals as goal
 
@@ -11,6 +11,3 @@ pub returns-in_err-check_end : goal.returns-in_err-check_end
 returns-in_err-check_end c =
     handed_on _ _ _ _ c.from_residual-in_err-check_end.ensures.1
     (surplus c.args.self.bytes.now c.args.self.few c.enter_lines.new.hour.book c.in_ok-end.end c.in_ok-end.rule c.in_ok-end.ensures _ c.in_err-check_end.ensures)
-
-pub returns : goal.returns
-returns c = ended c.args.self.bytes.now c.args.self.few c.enter_lines.new.hour.book c.in_ok-end.end c.in_ok-end.rule c.in_ok-end.ensures _ c.in_ok-check_end.ensures

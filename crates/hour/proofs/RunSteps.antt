@@ -11,7 +11,7 @@ use Rattle.hour.specs.declared.book.Book.{Book}
 use Rattle.hour.specs.Reason.{Reason, first_fitting}
 use Rattle.hour.specs.Market.{outcome}
 use Rattle.hour.specs.Book.{no_amounts}
-use Rattle.hour.specs.Line.{AmountsWithin, new_amounts}
+use Rattle.hour.specs.Line.{Item, amount_of, Within, new_amounts}
 use Rattle.hour.specs.Run.{drawn_amounts, draw_reasons, drawn, Drawing, DrawingInWords, slip_fits, slip_answer, out_amounts, full_run, settled, Posting, PostingInWords, Voiding, VoidingInWords}
 use Rattle.hour.proofs.Outcomes.{after_if, accepted, untouched}
 use Rattle.hour.proofs.PricedSteps.{Kept}
@@ -20,12 +20,12 @@ use Rattle.hour.proofs.Tables.{length_table}
 
 module _ (shares : ℕ → List ℕ → List ℕ) (before : Book) (r : Result Slip Fault) (after : Book)
     (state : after ≡ outcome r (drawn shares before) before) (kept : Kept before)
-    (within : IfOk r (λ _. AmountsWithin (out_amounts after.out))) where
+    (within : IfOk r (λ _. (k : ℕ) (item : Item) → Within 10000000000000000 (amount_of item (get_or (out_amounts after.out) k no_amounts)))) where
   full : length (drawn_amounts shares before) ≡ 32
   unfolding new_amounts
   full = length_table _ 32
 
-  new_within : (s : Result Slip Fault) → is_ok s ≡ true → IfOk s (λ _. AmountsWithin (out_amounts after.out)) → AmountsWithin (out_amounts after.out)
+  new_within : (s : Result Slip Fault) → is_ok s ≡ true → IfOk s (λ _. (k : ℕ) (item : Item) → Within 10000000000000000 (amount_of item (get_or (out_amounts after.out) k no_amounts))) → (k : ℕ) (item : Item) → Within 10000000000000000 (amount_of item (get_or (out_amounts after.out) k no_amounts))
   new_within (Ok x) ok w = w
   new_within (Err e) ok w = absurd (both_ways _ refl ok)
 
@@ -47,7 +47,7 @@ module _ (shares : ℕ → List ℕ → List ℕ) (before : Book) (r : Result Sl
               (
                 kept.1.1.1.1.0,
                 (
-                  subst (λ (b : Book). AmountsWithin (out_amounts b.out)) (same ok) (new_within r ok within),
+                  subst (λ (b : Book). (k : ℕ) (item : Item) → Within 10000000000000000 (amount_of item (get_or (out_amounts b.out) k no_amounts))) (same ok) (new_within r ok within),
                   (eq-eqb _ 32 full, tt),
                 ),
               ),
@@ -87,7 +87,7 @@ run_length (Some run) some whole = eqb-true _ 32 whole
 by_slip : (P : Book → Type 0) (b changed : Book) (slip : Slip) (after : Book) → after ≡ cond (slip_fits b slip) changed b → (slip_fits b slip ≡ true → P changed) → P b → P after
 by_slip P b changed slip after state new old = subst P (sym state) (cond_both (slip_fits b slip) changed b P new (λ _. old))
 
-settled_kept : (b : Book) (posted : List Amounts) → Kept b → length posted ≡ 32 → AmountsWithin posted → Kept (settled b posted)
+settled_kept : (b : Book) (posted : List Amounts) → Kept b → length posted ≡ 32 → ((k : ℕ) (item : Item) → Within 10000000000000000 (amount_of item (get_or posted k no_amounts))) → Kept (settled b posted)
 settled_kept b posted kept len within = (
   (kept.0.0, kept.0.1, kept.0.2, kept.0.3, len),
   (kept.1.0, (kept.1.1.0, (kept.1.1.1.0, (within, (λ k item. nothing_within item, (refl, tt)))))),

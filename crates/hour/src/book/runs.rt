@@ -1,6 +1,6 @@
 ghost use Rattle.std.specs.Prelude.{◌≡◌, true, false, if◌then◌else◌, MatchResult, OnOk};
 ghost use Rattle.hour.specs.Range.{Ranged};
-ghost use Rattle.hour.specs.Line.{AmountsWithin};
+ghost use Rattle.hour.specs.Line.{AllWithin};
 ghost use Rattle.hour.specs.Run.{out_amounts, Drawing, Posting, Voiding, slip_fits, settled};
 ghost use Rattle.hour.specs.declared.fault.Fault.TheVariants.{ForeignSlip};
 
@@ -22,9 +22,9 @@ impl Book {
     // Draws a run by a rule: writes its lines into the caller's list and hands out its slip.
     pub fn draw<R: Apportion>(&mut self, rule: &R, lines: &mut [Line]) -> Result<Slip, Fault>
         requires ranged { Ranged self.old }
-        requires posted { AmountsWithin self.old.posted }
+        requires posted { AllWithin self.old.posted }
         ensures drawing { Drawing (R.Apportion.meaning rule.now) self.old lines.old result self.new lines.new }
-        ensures within { OnOk result (AmountsWithin (out_amounts self.new.out)) }
+        ensures within { OnOk result (AllWithin (out_amounts self.new.out)) }
     {
         self.check_none_out()?;
         let participants = list_participants(&self.market);

@@ -4,6 +4,8 @@ ghost use Rattle.cases.specs.Run.{PostedRun, VoidedRun};
 use hour::{Fault, Line, PricedHour};
 use splitting::Apportion;
 
+// The two ways to end a run differ in what they promise; one function over the ending would carry both contracts as bounds.
+
 // Draws a run by a rule and posts it; answers its number.
 pub fn draw_and_post<R: Apportion>(
     hour: &mut PricedHour,

@@ -9,6 +9,7 @@ impl<'a> Position<'a> {
     ghost use Rattle.file.specs.Body.{ReadsBody};
 
     // Reads what stands behind a key, or gives the first place that breaks the form of the key's lines.
+    // A match says plainly which reader is a key's; a table of them would carry the eight contracts as bounds.
     fn body(self, key: Key) -> Result<Read, BrokenForm>
         ensures { ReadsBody key self.entry.file.now self.entry.at result }
     {

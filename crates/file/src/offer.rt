@@ -61,6 +61,7 @@ impl<'a> Position<'a> {
     }
 
     // Reads 1 to 7 blocks up to the line feed, or gives the place that breaks this form.
+    // A `for` over seven turns would need an answer behind it that is never given.
     fn blocks(self) -> Result<(ArrayVec<Block, 7>, Position<'a>), BrokenForm>
         ensures { MatchResult result (λ read. ReadBlocks self.entry.file.now self.entry.at read.0.items read.1) (λ broken. BreaksAt (BlockRow 7) self.entry.file.now self.entry.at broken.place) }
     {

@@ -5,6 +5,7 @@ use crate::error::Fault;
 use std::str::FromStr;
 
 // What a line is about, in the order in which lines come.
+// It stands apart from the keys of a whole hour file, since a line of any other key is none here.
 #[derive(Clone, Copy, PartialEq, PartialOrd)]
 pub enum Key {
     Hour,

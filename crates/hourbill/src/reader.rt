@@ -34,6 +34,7 @@ impl Reader {
             return Err(Fault::Key);
         }
         self.previous = Some(key);
+        // A match says plainly which reader is a key's; a table of them would carry the five contracts as bounds.
         match key {
             Key::Hour => read_label(heap, &mut self.hour, fields),
             Key::Asset => read_asset(heap, &mut self.hour, fields),

@@ -59,6 +59,7 @@ fn run(rt: &HostRuntime) -> Result<(), Stop> {
     }
 }
 
+// Each program tells its own error in this shape; a crate for it would be longer than the two.
 fn main(rt: HostRuntime) -> ExitCode {
     match run(&rt) {
         Ok(()) => ExitCode::SUCCESS,

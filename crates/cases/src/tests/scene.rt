@@ -108,6 +108,7 @@ pub fn worked_hour(rt: &impl Abort, label: u32) -> Result<PricedHour, Fail>
 }
 
 // A line as the statement prints it: participant, energy, uplift, adjustment, supply charge, load charge, net.
+// The list shows the order, which a conversion would hide.
 fn row(line: Line) -> [i64; 7]
     ensures { result ≡ row_of line }
 {

@@ -5,6 +5,9 @@ ghost use Rattle.hour.specs.Blocks.{fair_block, sound_blocks, SoundBlocks};
 use margins::blocks_in_order;
 use prices::{Block, BlockList, Kind};
 
+// Most power that all blocks of a list offer together, in MW.
+const MOST_TOGETHER: u64 = 1000;
+
 // Whether a block's size is 1 to 1,000 MW and its price at most 99,999 cents.
 fn is_fair(block: Block) -> bool
     ensures { result ≡ fair_block block }
@@ -19,7 +22,7 @@ pub fn sound_list(kind: Kind, blocks: &[Block]) -> Option<BlockList>
 {
     let list = BlockList::new(blocks)?;
     let is_sound = blocks.iter().all(|block| is_fair(*block))
-        && list.total_size() <= 1000
+        && list.total_size() <= MOST_TOGETHER
         && blocks_in_order(kind, blocks);
     is_sound.then_some(list)
 }

@@ -10,7 +10,7 @@ use Rattle.margins.specs.Order.{ordered_for}
 use Rattle.hour.specs.Blocks.{fair_block, sound_blocks}
 use Rattle.hour.proofs.Soundness.{sound_of_listed, unlisted}
 use Rattle.hour.proofs.blocks.sound_list.Goals as goal
-use Rattle.hour.proofs.blocks.sound_list.Goals.{then-all, else-all, then-total_size-le1000, else-total_size-le1000}
+use Rattle.hour.proofs.blocks.sound_list.Goals.{then-all, else-all, then-total_size-le-MOST_TOGETHER, else-total_size-le-MOST_TOGETHER}
 
 -- a test that goes on, and one that stops
 goes_on : (test rest answer : Bool) → test ≡ true → answer ≡ rest → answer ≡ (test && rest)
@@ -39,10 +39,10 @@ returns-clause-value c =
       | then-all v ↦ goes_on _ small _ v.if-all.true (v.value-is ∙ ap (λ n. leb n 1000) (v.total_size.ensures.value ∙ ap (λ xs. ahead xs (length xs)) c.in_ok-list.ensures.words))
       | else-all v ↦ stops _ small _ v.if-all.false v.value-is
     ] in
-    let sound : c.if-total_size-le1000.is_sound ≡ (c.if-all.value && ordered_for c.args.kind blocks) =
-    elim c.if-total_size-le1000.branch [
-      | then-total_size-le1000 w ↦ goes_on _ (ordered_for c.args.kind blocks) _ w.if-total_size-le1000.true (w.is_sound-is ∙ w.blocks_in_order-is_sound.ensures.value)
-      | else-total_size-le1000 w ↦ stops _ (ordered_for c.args.kind blocks) _ w.if-total_size-le1000.false w.is_sound-is
+    let sound : c.if-total_size-le-MOST_TOGETHER.is_sound ≡ (c.if-all.value && ordered_for c.args.kind blocks) =
+    elim c.if-total_size-le-MOST_TOGETHER.branch [
+      | then-total_size-le-MOST_TOGETHER w ↦ goes_on _ (ordered_for c.args.kind blocks) _ w.if-total_size-le-MOST_TOGETHER.true (w.is_sound-is ∙ w.blocks_in_order-is_sound.ensures.value)
+      | else-total_size-le-MOST_TOGETHER w ↦ stops _ (ordered_for c.args.kind blocks) _ w.if-total_size-le-MOST_TOGETHER.false w.is_sound-is
     ] in
     c.then_some.ensures
     ∙ ap (λ t. then_some t c.in_ok-list.list) (sound ∙ ap (λ t. t && ordered_for c.args.kind blocks) (so_far ∙ ap (λ t. t && small) fair) ∙ sym (sound_of_listed c.args.kind blocks held.0))

@@ -1,7 +1,6 @@
 -- The start of a file, the close of the hour, and the end of the file. Assumes nothing.
-use Rattle.std.proofs.Common.{◌≡◌, ℕ, ◌≤◌, Bool, true, false, cond, ltb, List, [], ◌∷◌, ◌++◌, length, Some, None, Ok, Err, Result, sym, refl, ap, ◌∙◌, subst, inl, arith}
-use Rattle.std.proofs.lemmas.List.{append-nil, drop_all}
-use Rattle.std.proofs.lemmas.Bool.{both_ways, ltb-true, ltb-false, lt-ltb}
+use Rattle.std.proofs.Common.{◌≡◌, ℕ, ◌≤◌, Bool, true, false, cond, ltb, List, [], ◌∷◌, length, Some, None, Ok, Err, sym, refl, subst, inl, arith}
+use Rattle.std.proofs.lemmas.Bool.{both_ways, ltb-true, lt-ltb}
 use Rattle.hour.specs.declared.market.Market.{Market}
 use Rattle.hour.specs.declared.book.Book.{Book}
 use Rattle.hour.specs.Book.{new_book}
@@ -9,9 +8,8 @@ use Rattle.ledger.proofs.Soundness.{market_sound}
 use Rattle.file.specs.Key.{order_of}
 use Rattle.file.specs.declared.item.Item.TheVariants.{Rule}
 use Rattle.file.specs.declared.item.RuleName.{RuleName}
-use Rattle.file.proofs.Places.{drop_stands, nothing_stands}
-use Rattle.hourfile.specs.Cursor.{BrokenHere, Behind, Trading, CameTo, EntryNext, Entering, Ruled, ReadWhole}
-use Rattle.hourfile.specs.Lines.{written}
+use Rattle.file.proofs.Places.{nothing_stands}
+use Rattle.hourfile.specs.Cursor.{BrokenHere, Behind, Trading, CameTo, EntryNext, Entering, Ruled}
 use Rattle.hourfile.specs.Outcome.{FirstFault}
 use Rattle.hourfile.specs.declared.cursor.Cursor.{Cursor}
 use Rattle.hourfile.specs.declared.fault.Fault.TheVariants.{IllFormed}
@@ -62,21 +60,3 @@ module _ (file : List ℕ) (few : length file ≤ 32768) (b : Book) (cursor : Cu
             more = λ _. ltb-true cursor.start (length file) e;
           }))
       by false e h = let z : ◌≡◌ {A = ℕ} 0 1 = cc in absurd (omega arith)
-
-  -- nothing stands behind the line of the rule
-  pub ended : (u : Unit {0}) → ◌≡◌ {A = Result (Unit {0}) LineFault} (Ok u) (cond (ltb cursor.start (length file)) (Err (record { line = Some cursor.line; fault = IllFormed 1 })) (Ok tt)) → ReadWhole file b rule
-  ended u said = by (ltb cursor.start (length file)) refl said
-    where
-      by : (more : Bool) → ltb cursor.start (length file) ≡ more → ◌≡◌ {A = Result (Unit {0}) LineFault} (Ok u) (cond more (Err (record { line = Some cursor.line; fault = IllFormed 1 })) (Ok tt)) → ReadWhole file b rule
-      by true e h = let z : ◌≡◌ {A = ℕ} 0 1 = cc in absurd (omega arith)
-      by false e h = record {
-        items = t.items;
-        complete = record {
-          few = few;
-          passed = t.passed;
-          whole = drop_stands file 0 cursor.start (written (Rule rule ∷ t.items)) t.behind.stands
-              ∙ ap (λ rest. written (Rule rule ∷ t.items) ++ rest) (drop_all cursor.start file (ltb-false cursor.start (length file) e))
-              ∙ append-nil (written (Rule rule ∷ t.items));
-        };
-        came = t.came;
-      }

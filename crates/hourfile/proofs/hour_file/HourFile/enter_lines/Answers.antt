@@ -1,8 +1,9 @@
-use Rattle.std.proofs.Common.{Some, None, Ok, sym, subst}
+use Rattle.std.proofs.Common.{Some, None, Ok, sym, ap, subst, arith}
 use Rattle.hourfile.specs.Call.{Entered}
 use Rattle.hourfile.specs.Cursor.{Entering, Ruled}
 use Rattle.hourfile.specs.Outcome.{FirstFault}
-use Rattle.hourfile.proofs.Passing.{handed_on, line_small}
+use Rattle.hourfile.specs.declared.cursor.Cursor.{Cursor}
+use Rattle.hourfile.proofs.Passing.{handed_on, line_small, moves}
 use Rattle.hourfile.proofs.Entries.{broken_on, entered_on, refused_on}
 use Rattle.hourfile.proofs.hour_file.HourFile.enter_lines.Goals as goal
 
@@ -36,3 +37,12 @@ returns-in-Err c =
     let read = c.in_ok-read.read in
     subst (FirstFault c.args.self.bytes.now) (sym c.fault.ensures)
     (refused_on c.args.self.bytes.now c.args.self.few c.loop-read.hour.book c.enter.new.hour.book c.loop-read.cursor c.loop-read.invariant c.in-Err.fault read.item read.next c.in_ok-read.ensures c.in-Err.ensures)
+
+pub loop-read-smaller : goal.loop-read-smaller
+loop-read-smaller c =
+    let read = c.in_ok-read.read in
+    let r = c.in_ok-read.ensures in
+    let on = moves c.args.self.bytes.now c.loop-read.cursor.start c.loop-read.cursor.last read r in
+    let within = r.stands.within in
+    let next = ap (λ (x : Cursor). x.start) c.behind-cursor.ensures in
+    omega (arith, on, within, next)

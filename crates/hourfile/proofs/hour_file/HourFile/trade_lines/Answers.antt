@@ -1,8 +1,9 @@
-use Rattle.std.proofs.Common.{Some, sym, subst}
+use Rattle.std.proofs.Common.{Some, sym, ap, subst, arith}
 use Rattle.hourfile.specs.Call.{Traded}
 use Rattle.hourfile.specs.Cursor.{Trading}
 use Rattle.hourfile.specs.Outcome.{FirstFault}
-use Rattle.hourfile.proofs.Passing.{handed_on, line_small}
+use Rattle.hourfile.specs.declared.cursor.Cursor.{Cursor}
+use Rattle.hourfile.proofs.Passing.{handed_on, line_small, moves}
 use Rattle.hourfile.proofs.Trades.{broken_on, made_on, refused_on, entry_on}
 use Rattle.hourfile.proofs.hour_file.HourFile.trade_lines.Goals as goal
 
@@ -32,3 +33,12 @@ pub returns-in-None : goal.returns-in-None
 returns-in-None c =
     let here = entry_on c.args.self.bytes.now c.args.self.few c.loop-read.hour.market c.trade.new.hour.market c.loop-read.cursor c.loop-read.invariant c.in_ok-read.read c.in_ok-read.ensures c.in-None.ensures in
     (subst (λ m. Trading c.args.self.bytes.now m c.loop-read.cursor) (sym here.0) c.loop-read.invariant, here.1)
+
+pub loop-read-smaller : goal.loop-read-smaller
+loop-read-smaller c =
+    let read = c.in_ok-read.read in
+    let r = c.in_ok-read.ensures in
+    let on = moves c.args.self.bytes.now c.loop-read.cursor.start c.loop-read.cursor.last read r in
+    let within = r.stands.within in
+    let next = ap (λ (x : Cursor). x.start) c.behind-cursor.ensures in
+    omega (arith, on, within, next)

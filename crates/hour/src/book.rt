@@ -113,7 +113,8 @@ impl Book {
         Ok(())
     }
 
-    // Matches a proposed instruction, for the owner of its sink.
+    // Matches a proposed instruction, for the owner of its sink. To confirm and to withdraw go down rows of their own in
+    // the table of refusals, so that each can be laid beside it.
     pub fn confirm(&mut self, number: u32, participant: u32) -> Result<(), Fault>
         ensures answer { result ≡ answer (confirm_reasons self.old number participant) }
         ensures state { self.new ≡ outcome result (confirmed self.old number) self.old }

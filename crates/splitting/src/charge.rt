@@ -34,7 +34,7 @@ impl<'a> AcceptedCharge<'a> {
         })
     }
 
-    // The weight of a place.
+    // The weight of a place; a type that says where a place may lie would be made anew for each.
     pub(crate) fn weight_at(&self, place: usize) -> u64
         requires { place < length self.now.weights.now }
         ensures { result ≡ slice_index self.now.weights.now place }

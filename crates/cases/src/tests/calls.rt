@@ -39,7 +39,7 @@ pub trait Call<H>: Copy {
     ghost keeps_on: { (first second third : H) → keeps first second → keeps second third → keeps first third };
 }
 
-// A call of a trading hour; offers are made one by one.
+// A call of a trading hour; offers are made one by one. A table of values shows its calls, which one of closures would hide.
 #[derive(Clone, Copy)]
 pub enum Trade {
     Enrol(u32, char, u32),

@@ -7,7 +7,7 @@ use hour::{PricedHour, TradingHour};
 use splitting::Running;
 use std::test::Fail;
 
-// Draws so many runs and voids each of them.
+// Draws so many runs and voids each of them; the loop repeats a call and indexes nothing.
 fn draw_often(hour: &mut PricedHour, times: u32) -> Result<(), Fail>
     ensures { is_ok result ≡ true → hour.new.book.draws ≡ hour.old.book.draws + times }
 {

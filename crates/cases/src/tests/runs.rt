@@ -75,6 +75,7 @@ fn late_reading(rt: &impl Abort, hour: &mut PricedHour) -> Result<(), Fail>
     Ok(())
 }
 
+// The list shows the order, which a conversion would hide.
 fn figures(amounts: Amounts) -> [i64; 6]
     ensures { result ≡ figures_of amounts }
 {

@@ -72,10 +72,7 @@ pub fn closed_hour(rt: &impl Abort, label: u32) -> Result<PricedHour, Fail>
 pub fn accepted<T>(answer: Result<T, Fault>) -> Result<T, Fail>
     ensures { IfOk result (λ value. answer ≡ Ok value) }
 {
-    match answer {
-        Ok(value) => Ok(value),
-        Err(fault) => Err(Fail::new(fault.row())),
-    }
+    answer.map_err(|fault| Fail::new(fault.row()))
 }
 
 // The readings and the instruction of the worked hour.

@@ -9,33 +9,37 @@ use prices::Block;
 use splitting::Apportion;
 
 // The label of the worked hour.
-const LABEL: u32 = 2024040107;
+pub const LABEL: u32 = 2024040107;
+
+// What the first asset of the worked hour offers.
+pub const CHEAP: [Block; 1] = [Block {
+    size: 100,
+    price: 2_000,
+}];
+
+// What the second asset of the worked hour offers.
+pub const DEAR: [Block; 2] = [
+    Block {
+        size: 50,
+        price: 3_000,
+    },
+    Block {
+        size: 50,
+        price: 9_000,
+    },
+];
 
 // The worked hour after its trading calls.
 fn trade_worked_hour() -> Result<TradingHour, Fault>
     ensures { IfOk result (λ hour. TradedTo worked_label worked_trades hour.market) }
 {
-    let cheap = [Block {
-        size: 100,
-        price: 2_000,
-    }];
-    let dear = [
-        Block {
-            size: 50,
-            price: 3_000,
-        },
-        Block {
-            size: 50,
-            price: 9_000,
-        },
-    ];
     let mut trading = TradingHour::new(LABEL);
     trading.enrol(1, 'G', 1)?;
     trading.enrol(2, 'G', 2)?;
     trading.enrol(3, 'L', 3)?;
     trading.enrol(4, 'L', 4)?;
-    trading.offer(1, &cheap)?;
-    trading.offer(2, &dear)?;
+    trading.offer(1, &CHEAP)?;
+    trading.offer(2, &DEAR)?;
     trading.order(1, 0, 100)?;
     trading.order(2, 0, 50)?;
     trading.order(2, 30, 80)?;

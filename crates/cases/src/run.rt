@@ -6,7 +6,7 @@ use splitting::Apportion;
 
 // The two ways to end a run differ in what they promise; one function over the ending would carry both contracts as bounds.
 
-// Draws a run by a rule and posts it; answers its number.
+// Draws a run by a rule and posts it; answers its number. The one of hourfile is private to it and passes its own fault on.
 pub fn draw_and_post<R: Apportion>(
     hour: &mut PricedHour,
     rule: &R,

@@ -72,6 +72,7 @@ pub enum Stop {
     Line(#[from] BadLine),
 }
 
+// By io's own conversion, whose words are printed.
 impl From<AllocError> for Stop {
     fn from(error: AllocError) -> Stop {
         Stop::Io(error.into())

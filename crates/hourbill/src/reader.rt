@@ -8,7 +8,7 @@ use crate::key::Key;
 use hour::TradingHour;
 use std::alloc::Global;
 
-// The hour so far, and the key of the latest line; with no line read yet, the label is of no account.
+// The hour so far, and the key of the latest line; with no line read yet, the label is of no account; an Option would need a branch that cannot come.
 #[derive(Drop)]
 struct Reader {
     hour: TradingHour,
@@ -45,6 +45,7 @@ impl Reader {
     }
 }
 
+// The five readers take the same three parameters; a struct of them would shorten only these lists, and each method would still state both clauses.
 fn read_label(heap: Global, hour: &mut TradingHour, fields: &str) -> Result<(), Fault>
     ensures read { OnOk result (LabelLine fields.now hour.new.market) }
     ensures refused { OnErr result (hour.new.market ≡ hour.old.market) }

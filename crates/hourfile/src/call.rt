@@ -41,9 +41,7 @@ fn instruct(
     ensures { Instructed hour.old.book number source sink kwh result hour.new.book }
 {
     hour.propose(number, source, sink, kwh)?;
-    let Some(owner) = hour.owner(sink) else {
-        unreachable()
-    };
+    let owner = hour.owner(sink).unwrap();
     match hour.confirm(number, owner) {
         Ok(()) => Ok(()),
         Err(_) => unreachable(),

@@ -53,6 +53,7 @@ impl Fault {
     {
         match self {
             Fault::Hour(fault) => fault.subject(),
+            // 0 where the table of refusals names no number.
             Fault::TooLarge => 0,
             Fault::IllFormed(place) => place as u64,
             Fault::TextTooShort(needed) => needed as u64,

@@ -29,10 +29,9 @@ impl<'a> HourFile<'a> {
     pub fn read(self, cursor: Cursor) -> Result<Read, LineFault>
         ensures { MatchResult result (λ read. ReadLine self.entry.bytes.now cursor.start cursor.last read) (λ at. BrokenHere self.entry.bytes.now cursor at) }
     {
-        match read_line(self.bytes, cursor.start, cursor.last) {
-            Ok(read) => Ok(read),
-            Err(broken) => Err(cursor.fault(Fault::IllFormed(broken.place))),
-        }
+        read_line(self.bytes, cursor.start, cursor.last).map_err(|broken| cursor.fault(
+            Fault::IllFormed(broken.place),
+        ))
     }
 
     // Nothing stands at the cursor, which is behind the last line.

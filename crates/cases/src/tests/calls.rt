@@ -65,7 +65,7 @@ impl Call<TradingHour> for Trade {
     }
 }
 
-// A call of a priced hour.
+// A call of a priced hour. As Trade, a table of values.
 #[derive(Clone, Copy)]
 pub enum Entry {
     Meter(u32, u32),

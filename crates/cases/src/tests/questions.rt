@@ -1,8 +1,9 @@
 ghost use Rattle.std.specs.Prelude.{◌≡◌};
 
+use crate::late::LABEL;
 use crate::run::draw_and_void;
 use crate::tests::calls::{Refusal, Trade, make_all, told};
-use crate::tests::scene::{BLANK, LABEL, accepted, block, closed_hour, read_worked, rows};
+use crate::tests::scene::{BLANK, accepted, block, closed_hour, read_worked, rows};
 use hour::{PricedHour, TradingHour};
 use splitting::{Largest, Running};
 use std::process::Abort;

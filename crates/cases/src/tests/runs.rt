@@ -1,9 +1,10 @@
 ghost use Rattle.std.specs.Prelude.{◌≡◌, true, is_ok, None};
 ghost use Rattle.cases.specs.Told.{figures_of};
 
+use crate::late::LABEL;
 use crate::run::{draw_and_post, draw_and_void};
 use crate::tests::calls::told;
-use crate::tests::scene::{BLANK, LABEL, accepted, rows, worked_hour};
+use crate::tests::scene::{BLANK, accepted, rows, worked_hour};
 use hour::{Amounts, PricedHour};
 use splitting::{Either, Largest, Running};
 use std::process::Abort;

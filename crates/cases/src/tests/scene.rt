@@ -1,14 +1,12 @@
 ghost use Rattle.std.specs.Prelude.{◌≡◌, map, IfOk, None, Ok};
 ghost use Rattle.cases.specs.Told.{row_of};
 
+use crate::late::{CHEAP, DEAR};
 use crate::tests::calls::{Entry, Trade, make_all, told};
 use hour::{Amounts, Fault, Line, PricedHour, TradingHour};
 use prices::Block;
 use std::process::Abort;
 use std::test::Fail;
-
-// The label of the worked hour.
-pub const LABEL: u32 = 2024040107;
 
 // A line that no draw writes.
 pub const BLANK: Line = Line {
@@ -29,7 +27,7 @@ pub fn block(size: u32, price: u32) -> Block
     Block { size, price }
 }
 
-// The trading calls of the worked hour.
+// The trading calls of the worked hour; the client of late readings makes them by `?`, and stops at the first refusal.
 fn trade_worked(rt: &impl Abort, hour: &mut TradingHour) -> Result<(), Fail>
     ensures { hour.new.market.label ≡ hour.old.market.label }
 {
@@ -43,9 +41,8 @@ fn trade_worked(rt: &impl Abort, hour: &mut TradingHour) -> Result<(), Fail>
             (Trade::Enrol(4, 'L', 4), None),
         ],
     )?;
-    assert_eq!(rt; told(hour.offer(1, &[block(100, 2_000)])), None);
-    let dear = [block(50, 3_000), block(50, 9_000)];
-    assert_eq!(rt; told(hour.offer(2, &dear)), None);
+    assert_eq!(rt; told(hour.offer(1, &CHEAP)), None);
+    assert_eq!(rt; told(hour.offer(2, &DEAR)), None);
     make_all(
         rt,
         hour,
@@ -72,10 +69,7 @@ pub fn closed_hour(rt: &impl Abort, label: u32) -> Result<PricedHour, Fail>
 pub fn accepted<T>(answer: Result<T, Fault>) -> Result<T, Fail>
     ensures { IfOk result (λ value. answer ≡ Ok value) }
 {
-    match answer {
-        Ok(value) => Ok(value),
-        Err(fault) => Err(Fail::new(fault.row())),
-    }
+    answer.map_err(|fault| Fail::new(fault.row()))
 }
 
 // The readings and the instruction of the worked hour.

@@ -1,8 +1,9 @@
 ghost use Rattle.std.specs.Prelude.{◌≡◌, ◌+◌, true, is_some, is_ok, IfOk, Some, None};
 ghost use Rattle.hour.specs.Run.{slip_fits};
 
+use crate::late::LABEL;
 use crate::tests::calls::{Call, Entry, Refusal, told};
-use crate::tests::scene::{BLANK, LABEL, accepted, worked_hour};
+use crate::tests::scene::{BLANK, accepted, worked_hour};
 use crate::tests::settle::void_elsewhere;
 use hour::{Fault, Line, PricedHour, Returned, Slip};
 use splitting::Largest;

@@ -1,4 +1,4 @@
-use Rattle.std.proofs.Common.{◌≡◌, Ok, ap, ◌∙◌, subst}
+use Rattle.std.proofs.Common.{◌≡◌, Ok, sym, ap, ◌∙◌, subst}
 use Rattle.hour.specs.Book.{owner_of}
 use Rattle.hour.specs.Priced.{Confirmation}
 use Rattle.hourfile.proofs.Instructions.{owner_is}
@@ -9,8 +9,8 @@ returns c =
     let before = c.args.hour.now.book in
     let between = c.propose.new.self.book in
     let p = c.in_ok-propose.ensures in
-    let own : c.in-Some.owner ≡ owner_of before.market c.args.sink =
-    owner_is between.market c.args.sink c.in-Some.owner c.in-Some.ensures ∙ ap (λ m. owner_of m c.args.sink) p.others.market in
+    let own : c.unwrap-owner.result ≡ owner_of before.market c.args.sink =
+    owner_is between.market c.args.sink c.unwrap-owner.result (sym c.unwrap-owner.ensures ∙ c.owner.ensures) ∙ ap (λ m. owner_of m c.args.sink) p.others.market in
     record {
       between = between;
       proposal = p;

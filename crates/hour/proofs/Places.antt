@@ -1,31 +1,12 @@
--- Chains over the numbers below a bound and over lists, in the words of sums, counts and first places. Assumes nothing.
-use Rattle.std.proofs.Common.{◌≡◌, ℕ, zero, suc, ◌+◌, ◌<◌, ◌≤◌, Bool, true, false, cond, ◌||◌, ltb, List, [], ◌∷◌, map, length, get_or, take, sum, Some, None, Option, sym, refl, ap, ◌∙◌, subst, inl, inr, add-one, arith}
+-- Chains over the numbers below a bound and over lists, in the words of counts and first places. Assumes nothing.
+use Rattle.std.proofs.Common.{◌≡◌, ℕ, zero, suc, ◌+◌, ◌<◌, ◌≤◌, Bool, true, false, cond, ◌||◌, ltb, List, [], ◌∷◌, length, get_or, Some, None, Option, sym, refl, ap, ◌∙◌, subst, inl, inr, arith}
 use denote.Param.Members.{Mut}
 use Rattle.std.specs.Fn.{Called}
 use Rattle.std.specs.Array.{IsFromFnResultFrom, IsFromFnResult}
-use Rattle.std.specs.Iterator.{Drains}
-use Rattle.std.specs.Iterator.Adapters.{map_source, map_callee, map_steps}
-use Rattle.std.specs.declared.iter.Map.{Map}
-use Rattle.std.specs.declared.ops.Range.{Range}
-use Rattle.std.specs.List.{range_with_len, fold, sum_by, find, list_any}
+use Rattle.std.specs.List.{range_with_len, find, list_any}
 use Rattle.std.specs.Option.{option_map}
-use Rattle.std.proofs.iter.Yields.{nat_range_steps}
-use Rattle.std.proofs.lemmas.Iterator.{YieldsList, YieldsList-from_map, items_from_drains}
 use Rattle.std.proofs.lemmas.Bool.{lt-ltb, cases_eq}
-use Rattle.std.proofs.lemmas.List.{map-id, take_all}
-use Rattle.std.proofs.lemmas.List.Sums.{sum_by_more}
-use Rattle.std.proofs.lemmas.List.FromFn.{sum_by-map-range_with_len_more}
 use Rattle.prices.specs.Range.{total, count, earlier, first_place}
-
--- a sum over the leading elements of a list, and over all of them
-sum_leading : {A : Type 0} (f : A → ℕ) (xs : List A) (d : A) (n : ℕ) → n ≤ length xs → sum_by f (take n xs) ≡ total (λ k. f (get_or xs k d)) n
-unfolding total
-sum_leading f xs d zero le = refl
-sum_leading f xs d (suc n) le =
-    ap (λ k. sum_by f (take k xs)) (sym (add-one n)) ∙ sum_by_more f xs n d (omega arith) ∙ ap (λ s. s + f (get_or xs n d)) (sum_leading f xs d n (omega arith))
-
-pub sum_over : {A : Type 0} (f : A → ℕ) (xs : List A) (d : A) → sum_by f xs ≡ total (λ k. f (get_or xs k d)) (length xs)
-sum_over f xs d = ap (sum_by f) (sym (take_all (length xs) xs (omega arith))) ∙ sum_leading f xs d (length xs) (omega arith)
 
 -- a sum by its first term
 total_from : (f : ℕ → ℕ) (n : ℕ) → total f (suc n) ≡ f 0 + total (λ k. f (suc k)) n

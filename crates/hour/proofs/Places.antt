@@ -1,38 +1,12 @@
--- Chains over the numbers below a bound and over lists, in the words of sums, counts and first places. Assumes nothing.
-use Rattle.std.proofs.Common.{◌≡◌, ℕ, zero, suc, ◌+◌, ◌<◌, ◌≤◌, Bool, true, false, cond, ◌||◌, ltb, List, [], ◌∷◌, map, length, get_or, take, sum, Some, None, Option, sym, refl, ap, ◌∙◌, subst, inl, inr, add-one, arith}
+-- Chains over the numbers below a bound and over lists, in the words of counts and first places. Assumes nothing.
+use Rattle.std.proofs.Common.{◌≡◌, ℕ, zero, suc, ◌+◌, ◌<◌, ◌≤◌, Bool, true, false, cond, ◌||◌, ltb, List, [], ◌∷◌, length, get_or, Some, None, Option, sym, refl, ap, ◌∙◌, subst, inl, inr, arith}
 use denote.Param.Members.{Mut}
 use Rattle.std.specs.Fn.{Called}
 use Rattle.std.specs.Array.{IsFromFnResultFrom, IsFromFnResult}
-use Rattle.std.specs.Iterator.{Drains}
-use Rattle.std.specs.Iterator.Adapters.{map_source, map_callee, map_steps}
-use Rattle.std.specs.declared.iter.Map.{Map}
-use Rattle.std.specs.declared.ops.Range.{Range}
-use Rattle.std.specs.List.{range_with_len, fold, sum_by, find, list_any}
+use Rattle.std.specs.List.{range_with_len, find, list_any}
 use Rattle.std.specs.Option.{option_map}
-use Rattle.std.proofs.iter.Yields.{nat_range_steps}
-use Rattle.std.proofs.lemmas.Iterator.{YieldsList, YieldsList-from_map, items_from_drains}
 use Rattle.std.proofs.lemmas.Bool.{lt-ltb, cases_eq}
-use Rattle.std.proofs.lemmas.List.{map-id, take_all}
-use Rattle.std.proofs.lemmas.List.Sums.{sum_by_more}
-use Rattle.std.proofs.lemmas.List.FromFn.{sum_by-map-range_with_len_more}
 use Rattle.prices.specs.Range.{total, count, earlier, first_place}
-
--- a sum over the numbers below a bound
-pub sum_below : (f : ℕ → ℕ) (n : ℕ) → sum (map f (range_with_len 0 n)) ≡ total f n
-unfolding total
-sum_below f zero = refl
-sum_below f (suc n) =
-    ap (λ k. sum (map f (range_with_len 0 k))) (sym (add-one n)) ∙ sum_by-map-range_with_len_more (λ x. x) f 0 n n (omega arith) ∙ ap (λ s. s + f n) (sum_below f n)
-
--- a sum over the leading elements of a list, and over all of them
-sum_leading : {A : Type 0} (f : A → ℕ) (xs : List A) (d : A) (n : ℕ) → n ≤ length xs → sum_by f (take n xs) ≡ total (λ k. f (get_or xs k d)) n
-unfolding total
-sum_leading f xs d zero le = refl
-sum_leading f xs d (suc n) le =
-    ap (λ k. sum_by f (take k xs)) (sym (add-one n)) ∙ sum_by_more f xs n d (omega arith) ∙ ap (λ s. s + f (get_or xs n d)) (sum_leading f xs d n (omega arith))
-
-pub sum_over : {A : Type 0} (f : A → ℕ) (xs : List A) (d : A) → sum_by f xs ≡ total (λ k. f (get_or xs k d)) (length xs)
-sum_over f xs d = ap (sum_by f) (sym (take_all (length xs) xs (omega arith))) ∙ sum_leading f xs d (length xs) (omega arith)
 
 -- a sum by its first term
 total_from : (f : ℕ → ℕ) (n : ℕ) → total f (suc n) ≡ f 0 + total (λ k. f (suc k)) n
@@ -110,17 +84,6 @@ find_from p a (suc n) =
     next true found = ap Some (omega arith)
     next false (Some k) = ap Some (omega arith)
     next false None = refl
-
--- what a sum over a mapped range of numbers gives
-pub sum_of_range : {F : Type 0} {g : Mut F (ℕ × Unit {0}) ℕ} {s : Map (Range ℕ) F} (h : ℕ → ℕ) (f : F) (n r : ℕ) →
-    (xs : List ℕ) × (Unit {0} → Drains (map_steps nat_range_steps g) s xs) × (r ≡ fold (λ a x. a + x) 0 xs) →
-    YieldsList nat_range_steps (λ x. x) (map_source s) (range_with_len 0 n) → map_callee s ≡ f →
-    ((x y : ℕ) (q : F) → Called g f (x, tt) y q → (q ≡ f) × (y ≡ h x)) → r ≡ total h n
-sum_of_range {F} {g} {s} h f n r ran road callee calls =
-    let drained = ran.1 tt in
-    let items : map (λ x. x) ran.0 ≡ map h (range_with_len 0 n) =
-    items_from_drains ran.0 (drained.1.0, drained.1.1, λ _. (drained.0, drained.1.2)) (YieldsList-from_map g h road callee calls) in
-    ran.2 ∙ ap sum (sym (map-id ran.0) ∙ items) ∙ sum_below h n
 
 -- what `from_fn` gives at each place, where its calls leave the closure as it was
 module _ {F B : Type 0} {g : Mut F (ℕ × Unit {0}) B} (f : F) (P : ℕ → B → Type 0) where

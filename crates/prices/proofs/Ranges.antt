@@ -1,10 +1,21 @@
 -- What holds of sums, maxima and first places over the numbers below a bound. Assumes nothing.
-use Rattle.std.proofs.Common.{◌≡◌, ℕ, zero, suc, ◌+◌, ◌-◌, ◌<◌, ◌≤◌, max, Bool, true, false, cond, ltb, List, [], ◌∷◌, length, get_or, take, Some, None, Option, sym, refl, ap, ◌∙◌, subst, inl, inr, suc-add, zero-add, sub-add_cancel, add-one, arith}
+use Rattle.std.proofs.Common.{◌≡◌, ℕ, zero, suc, ◌+◌, ◌-◌, ◌/◌, ◌<◌, ◌≤◌, max, Bool, true, false, cond, ltb, List, [], ◌∷◌, length, get_or, map, take, sum, Some, None, Option, sym, refl, ap, ◌∙◌, subst, inl, inr, suc-add, zero-add, sub-add_cancel, add-one, arith}
 use native.Mathlib.Numerals.{suc-eq-add-one}
-use Rattle.std.specs.List.{sum_by, position, position_or_len, fold, reduce, filter_map, cons_option}
+use denote.Param.Members.{Mut}
+use Rattle.std.specs.Fn.{Called}
+use Rattle.std.specs.Iterator.{Drains}
+use Rattle.std.specs.Iterator.Adapters.{map_source, map_callee, map_steps}
+use Rattle.std.specs.declared.iter.Map.{Map}
+use Rattle.std.specs.declared.ops.Range.{Range}
+use Rattle.std.proofs.iter.Yields.{nat_range_steps}
+use Rattle.std.proofs.lemmas.Iterator.{YieldsList, YieldsList-from_map, items_from_drains}
+use Rattle.std.proofs.lemmas.Iterator.Adapters.{YieldsAtMost, fits_from_length}
+use Rattle.std.specs.Iterator.Runs.{WholeRun}
+use Rattle.std.specs.List.{sum_by, position, position_or_len, fold, reduce, filter_map, cons_option, range_with_len}
 use Rattle.std.proofs.lemmas.Bool.{cases_eq, cases_lt, cond-true, cond-false, lt-ltb, le-ltb}
-use Rattle.std.proofs.lemmas.List.{take_all}
+use Rattle.std.proofs.lemmas.List.{map-id, take_all}
 use Rattle.std.proofs.lemmas.List.Sums.{sum_by_more, position_or_len_is}
+use Rattle.std.proofs.lemmas.List.FromFn.{sum_by-map-range_with_len_more}
 use Rattle.prices.specs.Range.{total, higher, highest, earlier, first_place}
 
 -- what holds below n and at n holds below the next number
@@ -160,3 +171,30 @@ highest_of_list f (x ∷ xs) d =
     highest_front (λ k. f (get_or (x ∷ xs) k d)) (length xs)
     ∙ ap (higher (f x)) (highest_of_list f xs d)
     ∙ higher_reduce (f x) (filter_map f xs)
+
+-- a sum over the numbers below a bound
+pub sum_below : (f : ℕ → ℕ) (n : ℕ) → sum (map f (range_with_len 0 n)) ≡ total f n
+unfolding total
+sum_below f zero = refl
+sum_below f (suc n) =
+    ap (λ k. sum (map f (range_with_len 0 k))) (sym (add-one n)) ∙ sum_by-map-range_with_len_more (λ x. x) f 0 n n (omega arith) ∙ ap (λ s. s + f n) (sum_below f n)
+
+-- what a sum over a mapped range of numbers gives
+pub sum_of_range : {F : Type 0} {g : Mut F (ℕ × Unit {0}) ℕ} {s : Map (Range ℕ) F} (h : ℕ → ℕ) (f : F) (n r : ℕ) →
+    (xs : List ℕ) × (Unit {0} → Drains (map_steps nat_range_steps g) s xs) × (r ≡ fold (λ a x. a + x) 0 xs) →
+    YieldsList nat_range_steps (λ x. x) (map_source s) (range_with_len 0 n) → map_callee s ≡ f →
+    ((x y : ℕ) (q : F) → Called g f (x, tt) y q → (q ≡ f) × (y ≡ h x)) → r ≡ total h n
+sum_of_range {F} {g} {s} h f n r ran road callee calls =
+    let drained = ran.1 tt in
+    let items : map (λ x. x) ran.0 ≡ map h (range_with_len 0 n) =
+    items_from_drains ran.0 (drained.1.0, drained.1.1, λ _. (drained.0, drained.1.2)) (YieldsList-from_map g h road callee calls) in
+    ran.2 ∙ ap sum (sym (map-id ran.0) ∙ items) ∙ sum_below h n
+
+-- a sum after a map stays below what its length and its greatest result allow
+pub sum_stays_below : {S A F : Type 0} {steps : S → Option A → S → Type 0} {s : Map S F} (g : Mut F (A × Unit {0}) ℕ) (f : F) (n top r : ℕ) →
+    YieldsAtMost steps (map_source s) n → map_callee s ≡ f → 0 < top → ((x : A) (y : ℕ) (q : F) → Called g f (x, tt) y q → (q ≡ f) × (y ≤ (top - 1) / n)) →
+    (Unit {0} → WholeRun (map_steps steps g) s (λ p. r ≡ fold (λ a x. a + x) 0 p.items)) → r < top
+sum_stays_below g f n top r few callee some calls runs =
+    let run = runs tt in
+    let below = fits_from_length g f n top few callee some calls run.0 run.0.seen run.1 in
+    omega (arith, below, run.3)

@@ -69,15 +69,14 @@ impl BlockList {
         &self.blocks[0..self.count.min(7)]
     }
 
-    // Power in all blocks together, in MW; the loop shows the bound, which the contract of a chain's sum does not.
+    // Power in all blocks together, in MW.
     pub fn total_size(&self) -> u64
         ensures value { result ≡ ahead (listed self.now) (length (listed self.now)) }
         ensures bound { result ≤ 7 * 4294967295 }
     {
-        let mut sum: u64 = 0;
-        for block in self.as_slice() {
-            sum += u64::from(block.size);
-        }
-        sum
+        self.as_slice()
+            .iter()
+            .map(|block| u64::from(block.size))
+            .sum()
     }
 }

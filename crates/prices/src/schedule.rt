@@ -47,16 +47,14 @@ impl Schedule {
         self.top_price(minute).unwrap_or(0)
     }
 
-    // Sum of the 60 system prices; the loop shows the bound, which the contract of a chain's sum does not.
+    // Sum of the 60 system prices.
     fn price_sum(&self) -> u64
         ensures value { result ≡ price_sum self.now }
         ensures bound { result ≤ 60 * 4294967295 }
     {
-        let mut sum: u64 = 0;
-        for minute in 0..60 {
-            sum += u64::from(self.system_price(minute));
-        }
-        sum
+        (0..60)
+            .map(|minute| u64::from(self.system_price(minute)))
+            .sum()
     }
 
     // Pool price of the hour and the sixtieths left over.

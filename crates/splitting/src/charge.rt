@@ -34,7 +34,8 @@ impl<'a> AcceptedCharge<'a> {
         })
     }
 
-    // The weight of a place; a type that says where a place may lie would be made anew for each.
+    // The weight of a place.
+    // A place stays a number: places_before goes over all of them, and a type for it would be built with its bound at each turn, to be used once.
     pub(crate) fn weight_at(&self, place: usize) -> u64
         requires { place < length self.now.weights.now }
         ensures { result ≡ slice_index self.now.weights.now place }

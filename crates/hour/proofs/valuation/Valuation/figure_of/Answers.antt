@@ -2,7 +2,7 @@ use Rattle.std.proofs.Common.{◌≡◌, ℕ, cond, refl, arith, rules}
 use Rattle.std.proofs.lemmas.Iterator.{YieldsList-from_range}
 use Rattle.std.proofs.lemmas.Iterator.Adapters.{fits_from_length, at_most_from_yields_List}
 use Rattle.hour.specs.Figure.{owned, figure_at, figure_of}
-use Rattle.hour.proofs.Places.{sum_of_range}
+use Rattle.prices.proofs.Ranges.{sum_of_range}
 use Rattle.hour.proofs.Limits.{owned_limit, figure_limit}
 use Rattle.hour.proofs.valuation.Valuation.figure_of.Goals as goal
 

@@ -48,8 +48,8 @@ fn asset_figure(figure: Figure, price: u32, asset: &Asset, reading: u32, matched
     }
 }
 
-// Whether the asset at a place is enrolled and has this owner. A place joins an asset, its record and its number; a
-// type for it would be made anew at each of the 64.
+// Whether the asset at a place is enrolled and has this owner. Four functions here ask for a place below 64: it joins
+// an asset, its record and its number, and a type for it would be made anew at each of the 64.
 fn is_owned(market: &Market, participant: u32, place: usize) -> bool
     requires { place < 64 }
     ensures { result ≡ owned market.now participant place }

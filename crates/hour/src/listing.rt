@@ -11,8 +11,7 @@ pub fn list_participants(market: &Market) -> ArrayVec<u32, 32>
 {
     // `collect` and `extend` answer a Result; a push with room cannot fail.
     let mut participants = ArrayVec::new();
-    for place in 0..32u32 {
-        let participant = place + 1;
+    for participant in 1..=32 {
         if is_listed(market, participant) {
             participants.push(participant);
         }

@@ -7,6 +7,7 @@ ghost use Rattle.hour.specs.Range.{largest_figure};
 
 use crate::instruction::Instruction;
 use crate::market::Market;
+use crate::number::ASSETS;
 use crate::valuation::Valuation;
 use margins::margin_payment;
 use prices::Asset;
@@ -120,5 +121,5 @@ fn is_unread(market: &Market, place: usize) -> bool
 pub fn unread_asset(market: &Market) -> Option<u32>
     ensures { result ≡ first_unread market.now }
 {
-    (1..65).find(|asset| is_unread(market, *asset as usize - 1))
+    (1..=ASSETS).find(|asset| is_unread(market, *asset as usize - 1))
 }

@@ -9,13 +9,14 @@ use Rattle.hour.specs.declared.line.Amounts.{Amounts}
 use Rattle.hour.specs.declared.run.Run.{Run}
 use Rattle.hour.specs.declared.market.Market.{Market}
 use Rattle.hour.specs.declared.book.Book.{Book}
+use Rattle.hour.specs.declared.book.Step.{Step}
 use Rattle.hour.specs.declared.instruction.Terms.{Terms}
 use Rattle.hour.specs.declared.instruction.Instruction.{Instruction}
 use Rattle.hour.specs.declared.instruction.Instruction.TheVariants.{Free, Proposed, Matched}
 use Rattle.hour.specs.declared.instruction.Event.{Event}
 use Rattle.hour.specs.declared.instruction.Event.TheVariants.{Propose, Confirm, Withdraw}
 use Rattle.hour.specs.Reason.{Reason, when, outside}
-use Rattle.hour.specs.Instruction.{next_stage, terms_of}
+use Rattle.hour.specs.Instruction.{next_stage, held_terms, terms_of}
 use Rattle.hour.specs.Market.{asset_at, record_at, missing}
 
 -- nothing to pay and nothing to charge
@@ -129,6 +130,20 @@ source_owner b number = owner_of b.market (terms_of (instruction_at b (number - 
 
 abbrev pub sink_owner : Book → ℕ → ℕ
 sink_owner b number = owner_of b.market (terms_of (instruction_at b (number - 1))).sink
+
+-- the reasons that confirm and withdraw share; an instruction without terms takes no step
+abbrev pub step_reasons : Book → ℕ → ℕ → Event → List Reason
+step_reasons b number participant event =
+    out_reason b
+    ∷ when (outside 1 64 number) (OutOfRange number)
+    ∷ when (outside 1 32 participant) (OutOfRange participant)
+    ∷ when (not (is_some (held_terms (instruction_at b (number - 1)))) || misplaced b number event) (WrongStage number)
+    ∷ []
+
+-- the step that an event makes of an instruction
+abbrev pub step_of : Book → ℕ → Event → Step
+step_of b number event =
+    record { place = number - 1; terms = terms_of (instruction_at b (number - 1)); next = unwrap_or (next_stage (instruction_at b (number - 1)) event) Free }
 
 abbrev pub confirm_reasons : Book → ℕ → ℕ → List Reason
 confirm_reasons b number participant =

@@ -1,8 +1,8 @@
-ghost use Rattle.std.specs.Prelude.{◌≡◌, ◌≤◌, not, is_some, if◌then◌else◌, Ok, Err, ◌==◌};
+ghost use Rattle.std.specs.Prelude.{◌≡◌, ◌-◌, ◌<◌, ◌≤◌, IfOk, not, is_some, if◌then◌else◌, Ok, Err, ◌==◌};
 ghost use Rattle.hour.specs.declared.fault.Fault.TheVariants.{RunOut};
-ghost use Rattle.hour.specs.Reason.{answer, outside};
+ghost use Rattle.hour.specs.Reason.{answer, first_fitting, outside};
 ghost use Rattle.hour.specs.Market.{outcome, record_at};
-ghost use Rattle.hour.specs.Book.{new_book, run_number, meter_reasons, metered, propose_reasons, proposed, confirm_reasons, confirmed, withdraw_reasons, withdrawn, owner_of};
+ghost use Rattle.hour.specs.Book.{new_book, run_number, meter_reasons, metered, propose_reasons, proposed, step_reasons, step_of, confirm_reasons, confirmed, withdraw_reasons, withdrawn, owner_of};
 
 use crate::fault::Fault;
 use crate::instruction::{Event, Instruction, Terms};
@@ -21,6 +21,13 @@ fn is_movable(kwh: u32) -> bool
     ensures { result ≡ not (outside 1 1000000 kwh) }
 {
     1 <= kwh && kwh <= MOST_ENERGY
+}
+
+// A stage that an instruction takes: its place, its terms and the stage.
+struct Step {
+    place: usize,
+    terms: Terms,
+    next: Instruction,
 }
 
 // The tables of a priced hour: what trading left, the instructions by number less one, the posted amounts
@@ -113,19 +120,27 @@ impl Book {
         Ok(())
     }
 
-    // Matches a proposed instruction, for the owner of its sink. To confirm and to withdraw go down rows of their own in
-    // the table of refusals, so that each can be laid beside it.
-    pub fn confirm(&mut self, number: u32, participant: u32) -> Result<(), Fault>
-        ensures answer { result ≡ answer (confirm_reasons self.old number participant) }
-        ensures state { self.new ≡ outcome result (confirmed self.old number) self.old }
+    // What to confirm and to withdraw an instruction share: all but who is a party to it.
+    fn step(&self, number: u32, participant: u32, event: Event) -> Result<Step, Fault>
+        ensures value { result ≡ first_fitting (step_reasons self.now number participant event) (Ok (step_of self.now number event)) }
+        ensures within { IfOk result (λ step. step.place < 64) }
     {
         self.check_none_out()?;
         let place = place_of::<INSTRUCTIONS>(number)?;
         place_of::<PARTICIPANTS>(participant)?;
         let current = self.instructions[place];
-        let (Some(terms), Some(next)) = (current.terms(), current.next(Event::Confirm)) else {
+        let (Some(terms), Some(next)) = (current.terms(), current.next(event)) else {
             return Err(Fault::WrongStage(number));
         };
+        Ok(Step { place, terms, next })
+    }
+
+    // Matches a proposed instruction, for the owner of its sink.
+    pub fn confirm(&mut self, number: u32, participant: u32) -> Result<(), Fault>
+        ensures answer { result ≡ answer (confirm_reasons self.old number participant) }
+        ensures state { self.new ≡ outcome result (confirmed self.old number) self.old }
+    {
+        let Step { place, terms, next } = self.step(number, participant, Event::Confirm)?;
         if !self.is_owner(participant, terms.sink) {
             return Err(Fault::WrongParty(participant));
         }
@@ -138,13 +153,7 @@ impl Book {
         ensures answer { result ≡ answer (withdraw_reasons self.old number participant) }
         ensures state { self.new ≡ outcome result (withdrawn self.old number) self.old }
     {
-        self.check_none_out()?;
-        let place = place_of::<INSTRUCTIONS>(number)?;
-        place_of::<PARTICIPANTS>(participant)?;
-        let current = self.instructions[place];
-        let (Some(terms), Some(next)) = (current.terms(), current.next(Event::Withdraw)) else {
-            return Err(Fault::WrongStage(number));
-        };
+        let Step { place, terms, next } = self.step(number, participant, Event::Withdraw)?;
         if !self.is_owner(participant, terms.source) && !self.is_owner(participant, terms.sink) {
             return Err(Fault::WrongParty(participant));
         }

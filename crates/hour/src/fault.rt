@@ -105,6 +105,7 @@ impl Fault {
             | Fault::ReadingMissing(number)
             | Fault::NetTooLarge(number) => u64::from(number),
             Fault::Split(fault) => fault.subject(),
+            // 0 where the table of refusals names no number.
             Fault::DrawsUsedUp => 0,
         }
     }

@@ -7,6 +7,7 @@ ghost use Rattle.hour.specs.Range.{largest_figure};
 
 use crate::instruction::Instruction;
 use crate::market::Market;
+use crate::number::ASSETS;
 use crate::valuation::Valuation;
 use margins::margin_payment;
 use prices::Asset;
@@ -48,8 +49,8 @@ fn asset_figure(figure: Figure, price: u32, asset: &Asset, reading: u32, matched
     }
 }
 
-// Whether the asset at a place is enrolled and has this owner. A place joins an asset, its record and its number; a
-// type for it would be made anew at each of the 64.
+// Whether the asset at a place is enrolled and has this owner. Four functions here ask for a place below 64: it joins
+// an asset, its record and its number, and a type for it would be made anew at each of the 64.
 fn is_owned(market: &Market, participant: u32, place: usize) -> bool
     requires { place < 64 }
     ensures { result ≡ owned market.now participant place }
@@ -120,5 +121,5 @@ fn is_unread(market: &Market, place: usize) -> bool
 pub fn unread_asset(market: &Market) -> Option<u32>
     ensures { result ≡ first_unread market.now }
 {
-    (1..65).find(|asset| is_unread(market, *asset as usize - 1))
+    (1..=ASSETS).find(|asset| is_unread(market, *asset as usize - 1))
 }

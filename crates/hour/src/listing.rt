@@ -9,10 +9,9 @@ use arrayvec::ArrayVec;
 pub fn list_participants(market: &Market) -> ArrayVec<u32, 32>
     ensures { result.items ≡ listing market.now }
 {
-    // A push within the capacity cannot fail, as `collect` may.
+    // `collect` and `extend` answer a Result; a push with room cannot fail.
     let mut participants = ArrayVec::new();
-    for place in 0..32u32 {
-        let participant = place + 1;
+    for participant in 1..=32 {
         if is_listed(market, participant) {
             participants.push(participant);
         }

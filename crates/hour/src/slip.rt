@@ -35,8 +35,8 @@ impl Slip {
         self.run
     }
 
-    // Whether this is the slip of a run of an hour with this label. Its numbers are compared, since a slip made for `==`
-    // would have to be ended too.
+    // Whether this is the slip of a run of an hour with this label. Its numbers are compared: a slip made for `==` would
+    // have to be ended too, and a pair of both inside would change `slip.run`, which the definitions name.
     pub(crate) fn is_of(&self, label: u32, run: u32) -> bool
         ensures { result ≡ (self.now.label == label && self.now.run == run) }
     {

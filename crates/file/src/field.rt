@@ -42,10 +42,7 @@ impl<'a> Position<'a> {
     fn end_byte(self, end: End) -> Option<u8>
         ensures { MatchOption result (NoEnd end self.entry.file.now self.entry.at) (λ byte. EndAt end self.entry.file.now self.entry.at byte) }
     {
-        let Some(byte) = self.byte() else {
-            return None;
-        };
-        if end.allows(byte) { Some(byte) } else { None }
+        self.byte().filter(|byte| end.allows(*byte))
     }
 
     // Reads a number and the byte that ends it, or gives the place that breaks this form.

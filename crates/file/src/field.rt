@@ -49,13 +49,9 @@ impl<'a> Position<'a> {
     pub fn field(self, end: End) -> Result<Field<'a>, BrokenForm>
         ensures { MatchResult result (λ field. ReadNumber end self.entry.file.now self.entry.at field) (λ broken. BreaksAt (NumberField end) self.entry.file.now self.entry.at broken.place) }
     {
-        let Some(number) = self.number() else {
-            return Err(self.broken());
-        };
+        let number = self.number().ok_or(self.broken())?;
         let next = number.next;
-        let Some(byte) = next.end_byte(end) else {
-            return Err(next.broken());
-        };
+        let byte = next.end_byte(end).ok_or(next.broken())?;
         Ok(Field {
             value: number.value,
             ends_line: byte == b'\n',

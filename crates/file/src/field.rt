@@ -26,10 +26,10 @@ impl End {
     }
 }
 
-// A number of a line, whether a line feed ends it, and the position behind the byte that ends it.
+// A value of a line, whether a line feed ends it, and the position behind the byte that ends it.
 #[derive(Clone, Copy)]
-pub struct Field<'a> {
-    pub value: u32,
+pub struct Field<'a, T> {
+    pub value: T,
     pub ends_line: bool,
     pub next: Position<'a>,
 }
@@ -46,7 +46,7 @@ impl<'a> Position<'a> {
     }
 
     // Reads a number and the byte that ends it, or gives the place that breaks this form.
-    pub fn field(self, end: End) -> Result<Field<'a>, BrokenForm>
+    pub fn field(self, end: End) -> Result<Field<'a, u32>, BrokenForm>
         ensures { MatchResult result (λ field. ReadNumber end self.entry.file.now self.entry.at field) (λ broken. BreaksAt (NumberField end) self.entry.file.now self.entry.at broken.place) }
     {
         let number = self.number().ok_or(self.broken())?;

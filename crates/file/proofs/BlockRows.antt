@@ -16,7 +16,6 @@ use Rattle.file.specs.Body.{ReadBody}
 use Rattle.file.specs.declared.field.End.{End}
 use Rattle.file.specs.declared.field.End.TheVariants.{Colon, Comma, Line, CommaOrLine}
 use Rattle.file.specs.declared.field.Field.{Field}
-use Rattle.file.specs.declared.offer.BlockRead.{BlockRead}
 use Rattle.file.specs.declared.item.Item.TheVariants as item
 use Rattle.file.specs.declared.key.Key.TheVariants.{Offer}
 use Rattle.file.specs.declared.position.Position.{Position}
@@ -62,7 +61,7 @@ no_digit_colon : Digit 58 → ⊥
 no_digit_colon d = omega arith
 
 -- the price of a block breaks behind its size
-pub price_breaks : (end : End) (file : List ℕ) (start place : ℕ) (size : Field) → ReadNumber Colon file start size →
+pub price_breaks : (end : End) (file : List ℕ) (start place : ℕ) (size : Field ℕ) → ReadNumber Colon file start size →
     BreaksAt (NumberField end) size.next.file.now size.next.at place → BreaksAt (BlockField end) file start place
 price_breaks end file start place size n b =
     later_breaks_at (NumberField end) (BlockField end) (decimal size.value ++ 58 ∷ []) file start size.next.at place
@@ -86,7 +85,7 @@ price_breaks end file start place size n b =
     (subst (λ (c : ℕ). Stands file start size.next.at (decimal size.value ++ c ∷ [])) (colon_end n.byte n.ends) n.stands.stands)
     (subst (λ (f : List ℕ). BreaksAt (NumberField end) f size.next.at place) n.stands.same b)
 
-pub block_stands : (end : End) (file : List ℕ) (start : ℕ) (size price : Field) → ReadNumber Colon file start size → (p : ReadNumber end size.next.file.now size.next.at price) →
+pub block_stands : (end : End) (file : List ℕ) (start : ℕ) (size price : Field ℕ) → ReadNumber Colon file start size → (p : ReadNumber end size.next.file.now size.next.at price) →
     StandsBefore file start price.next ((decimal size.value ++ 58 ∷ decimal price.value) ++ p.byte ∷ [])
 block_stands end file start size price n p =
     record {
@@ -252,36 +251,36 @@ more_to_come count byte few a not-Line =
 one_longer : (blocks : List Block) (b : Block) → length (blocks ++ b ∷ []) ≡ length blocks + 1
 one_longer blocks b = length-append blocks (b ∷ [])
 
-pub reading_more : (file : List ℕ) (start : ℕ) (next : Position) (blocks : List Block) → Reading file start next blocks → (read : BlockRead) → ReadBlock (block_end (length blocks)) next.file.now next.at read →
-    read.ends_line ≡ false → Reading file start read.next (blocks ++ read.block ∷ [])
+pub reading_more : (file : List ℕ) (start : ℕ) (next : Position) (blocks : List Block) → Reading file start next blocks → (read : Field Block) → ReadBlock (block_end (length blocks)) next.file.now next.at read →
+    read.ends_line ≡ false → Reading file start read.next (blocks ++ read.value ∷ [])
 reading_more file start next blocks r read other not-Line =
     let b = subst (λ (f : List ℕ). ReadBlock (block_end (length blocks)) f next.at read) r.same other in
     let comma = more_to_come (length blocks) b.byte r.few b.ends (eqb-false b.byte 10 (sym b.line ∙ not-Line)) in
-    let s : Stands file next.at read.next.at (block_text read.block ++ 44 ∷ []) = subst (λ (c : ℕ). Stands file next.at read.next.at (block_text read.block ++ c ∷ [])) comma.0 b.stands.stands in
-    let n : 6 - length blocks ≡ suc (6 - length (blocks ++ read.block ∷ [])) = omega (arith, comma.1, one_longer blocks read.block) in
+    let s : Stands file next.at read.next.at (block_text read.value ++ 44 ∷ []) = subst (λ (c : ℕ). Stands file next.at read.next.at (block_text read.value ++ c ∷ [])) comma.0 b.stands.stands in
+    let n : 6 - length blocks ≡ suc (6 - length (blocks ++ read.value ∷ [])) = omega (arith, comma.1, one_longer blocks read.value) in
     record {
-      few = omega (arith, comma.1, one_longer blocks read.block);
+      few = omega (arith, comma.1, one_longer blocks read.value);
       same = b.stands.same;
-      words = words_more blocks read.block r.words b.size b.price;
+      words = words_more blocks read.value r.words b.size b.price;
       breaks = λ place k.
-          r.breaks place (row_later (6 - length blocks) file next.at read.next.at place read.block b.size b.price s (subst (λ (m : ℕ). BreaksAt (RowForm (Blocks m)) file read.next.at place) (sym n) k));
+          r.breaks place (row_later (6 - length blocks) file next.at read.next.at place read.value b.size b.price s (subst (λ (m : ℕ). BreaksAt (RowForm (Blocks m)) file read.next.at place) (sym n) k));
       stands = λ rest end k some.
-          (let whole = r.stands (read.block ∷ rest) end
-          (row_stands file next.at read.next.at end (block_text read.block) 44 (map block_text rest) s (sym (ending_some (map block_text rest) (omega (arith, length-map rest block_text)))) k) (omega arith) in
-          subst (λ (t : List Block). Stands file start end (row (map block_text t))) (sym (append_assoc blocks (read.block ∷ []) rest)) whole);
+          (let whole = r.stands (read.value ∷ rest) end
+          (row_stands file next.at read.next.at end (block_text read.value) 44 (map block_text rest) s (sym (ending_some (map block_text rest) (omega (arith, length-map rest block_text)))) k) (omega arith) in
+          subst (λ (t : List Block). Stands file start end (row (map block_text t))) (sym (append_assoc blocks (read.value ∷ []) rest)) whole);
     }
 
-pub reading_done : (file : List ℕ) (start : ℕ) (next : Position) (blocks : List Block) → Reading file start next blocks → (read : BlockRead) → ReadBlock (block_end (length blocks)) next.file.now next.at read →
-    read.ends_line ≡ true → ReadBlocks file start (blocks ++ read.block ∷ []) read.next
+pub reading_done : (file : List ℕ) (start : ℕ) (next : Position) (blocks : List Block) → Reading file start next blocks → (read : Field Block) → ReadBlock (block_end (length blocks)) next.file.now next.at read →
+    read.ends_line ≡ true → ReadBlocks file start (blocks ++ read.value ∷ []) read.next
 reading_done file start next blocks r read other line =
     let b = subst (λ (f : List ℕ). ReadBlock (block_end (length blocks)) f next.at read) r.same other in
     record {
-      some = omega (arith, one_longer blocks read.block);
-      few = omega (arith, r.few, one_longer blocks read.block);
-      words = words_more blocks read.block r.words b.size b.price;
+      some = omega (arith, one_longer blocks read.value);
+      few = omega (arith, r.few, one_longer blocks read.value);
+      words = words_more blocks read.value r.words b.size b.price;
       stands = record {
         same = b.stands.same;
-        stands = r.stands (read.block ∷ []) read.next.at (subst (λ (c : ℕ). Stands file next.at read.next.at (block_text read.block ++ c ∷ [])) (eqb-true b.byte 10 (sym b.line ∙ line)) b.stands.stands) (omega arith);
+        stands = r.stands (read.value ∷ []) read.next.at (subst (λ (c : ℕ). Stands file next.at read.next.at (block_text read.value ++ c ∷ [])) (eqb-true b.byte 10 (sym b.line ∙ line)) b.stands.stands) (omega arith);
       };
     }
 
@@ -307,11 +306,11 @@ asset_breaks file start place b =
     number_first (Blocks 7) Comma file start place
     (calls_comma (Blocks 7) (some_blocks 7) (block_text none ∷ []) (record { blocks = none ∷ []; some = omega arith; few = omega arith; words = (omega arith, omega arith, tt); same = refl })) b
 
-pub blocks_break : (file : List ℕ) (start place : ℕ) (field : Field) → ReadNumber Comma file start field → BreaksAt (BlockRow 7) field.next.file.now field.next.at place → BreaksAt (RowForm (Cons NumberText (Blocks 7))) file start place
+pub blocks_break : (file : List ℕ) (start place : ℕ) (field : Field ℕ) → ReadNumber Comma file start field → BreaksAt (BlockRow 7) field.next.file.now field.next.at place → BreaksAt (RowForm (Cons NumberText (Blocks 7))) file start place
 blocks_break file start place field n b = number_later (Blocks 7) file start place field (some_blocks 7) n (row_of_blocks field.next.file.now field.next.at place b)
 
 -- the blocks that were read are those of an item with their list
-pub offer_read : (file : List ℕ) (start : ℕ) (asset : Field) (blocks : List Block) (next : Position) → ReadNumber Comma file start asset → ReadBlocks asset.next.file.now asset.next.at blocks next →
+pub offer_read : (file : List ℕ) (start : ℕ) (asset : Field ℕ) (blocks : List Block) (next : Position) → ReadNumber Comma file start asset → ReadBlocks asset.next.file.now asset.next.at blocks next →
     ReadBody Offer file start (record { item = item.Offer asset.value (block_list blocks); next = next.at })
 offer_read file start asset blocks next n b =
     record {

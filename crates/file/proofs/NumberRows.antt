@@ -117,7 +117,7 @@ byte_behind : (place count byte : ℕ) (rest : List ℕ) → length rest + (plac
 byte_behind place count byte [] e a = line_end byte (subst (λ (end : End). allowed end byte ≡ true) (line_behind place count (omega arith)) a)
 byte_behind place count byte (v ∷ rest) e a = comma_end byte (subst (λ (end : End). allowed end byte ≡ true) (comma_behind place count (omega arith)) a)
 
-pub one_more_taken : (count : ℕ) (file : List ℕ) (start taken : ℕ) (values : List ℕ) (next : Position) (field : Field) → taken < count → Taken count file start taken values next →
+pub one_more_taken : (count : ℕ) (file : List ℕ) (start taken : ℕ) (values : List ℕ) (next : Position) (field : Field ℕ) → taken < count → Taken count file start taken values next →
     ReadNumber (row_end taken count) next.file.now next.at field → Taken count file start (taken + 1) (set values taken field.value) field.next
 one_more_taken count file start taken values next field lt t other =
     let n = subst (λ (f : List ℕ). ReadNumber (row_end taken count) f next.at field) t.same other in

@@ -1,5 +1,5 @@
 -- How forms are put together: the first part breaks, or what follows the first part breaks. Assumes nothing.
-use Rattle.std.proofs.Common.{◌≡◌, ℕ, ◌+◌, ◌-◌, ◌<◌, ◌≤◌, ◌⊎◌, List, [], ◌∷◌, ◌++◌, length, get_or, take, drop, IsErrAnd, Result, sym, refl, ap, ◌∙◌, subst, inl, inr, ⊎_elim, arith, take-add, MatchResult, MatchOption, Option, Some, None}
+use Rattle.std.proofs.Common.{◌≡◌, ℕ, ◌+◌, ◌-◌, ◌<◌, ◌≤◌, ◌⊎◌, List, [], ◌∷◌, ◌++◌, length, get_or, take, drop, IsErrAnd, Result, Ok, Err, sym, refl, ap, ◌∙◌, subst, inl, inr, ⊎_elim, arith, take-add, MatchResult, MatchOption, Option, Some, None}
 use Rattle.std.specs.List.{between}
 use Rattle.std.proofs.lemmas.List.{append_assoc, append-nil, drop-drop, take-append-drop, take_at, length-drop, length-append}
 use Rattle.std.proofs.lemmas.List.Edits.{between_none, between_more}
@@ -135,6 +135,14 @@ pub err_passed : {A E : Type 0} (P : A → Type 0) (Q : E → Type 0) (error : E
 err_passed {A = A} {E = E} P Q error r e q =
     let p = err_from_is_err_and r e in
     subst (λ (x : Result A E). MatchResult x P Q) (sym p.1) (subst Q (sym p.2) q)
+
+-- what a `map_err` gives, where a fact of each value and each error is known
+pub error_mapped : {A D E : Type 0} (P P2 : A → Type 0) (Q : E → Type 0) (M : E → D → Type 0) (Q2 : D → Type 0) (r : Result A E) (mapped : Result A D) →
+    MatchResult r P Q → MatchResult r (λ x. mapped ≡ Ok x) (λ e. IsErrAnd mapped (λ d. M e d)) → ((x : A) → P x → P2 x) → ((e : E) (d : D) → Q e → M e d → Q2 d) → MatchResult mapped P2 Q2
+error_mapped P P2 Q M Q2 (Ok x) mapped p m ok err = subst (λ r. MatchResult r P2 Q2) (sym m) (ok x p)
+error_mapped P P2 Q M Q2 (Err e) mapped q m ok err =
+    let p = err_from_is_err_and mapped m in
+    subst (λ r. MatchResult r P2 Q2) (sym p.1) (err e _ q p.2)
 
 -- a text stands where the file goes on with it
 pub stands_from_drop : (file : List ℕ) (start : ℕ) (text more : List ℕ) → start ≤ length file → drop start file ≡ text ++ more → Stands file start (start + length text) text

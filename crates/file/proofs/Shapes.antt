@@ -224,7 +224,7 @@ pub letter_first : (R : List (List ℕ) → Type 0) (file : List ℕ) (start pla
 letter_first R file start place calls b = field_first LetterText R Comma file start place calls (letter_part file start place b)
 
 -- what follows a number and its comma breaks
-pub number_later : (R : List (List ℕ) → Type 0) (file : List ℕ) (start place : ℕ) (field : Field) → ((rest : List (List ℕ)) → R rest → 0 < length rest) → ReadNumber Comma file start field →
+pub number_later : (R : List (List ℕ) → Type 0) (file : List ℕ) (start place : ℕ) (field : Field ℕ) → ((rest : List (List ℕ)) → R rest → 0 < length rest) → ReadNumber Comma file start field →
     BreaksAt (RowForm R) field.next.file.now field.next.at place → BreaksAt (RowForm (Cons NumberText R)) file start place
 number_later R file start place field some n b =
     field_later NumberText R R (decimal field.value) file start field.next.at place (number_text field.value n.word) clean_number
@@ -240,14 +240,14 @@ letter_later F R file start place letter next n b =
     (subst (λ (f : List ℕ). BreaksAt (RowForm (Cons F R)) f next.at place) n.stands.same b)
 
 -- a number and the rest of its row stand one after the other
-pub number_stands : (file : List ℕ) (start next : ℕ) (field : Field) (rest : List (List ℕ)) → ReadNumber Comma file start field → 0 < length rest →
+pub number_stands : (file : List ℕ) (start next : ℕ) (field : Field ℕ) (rest : List (List ℕ)) → ReadNumber Comma file start field → 0 < length rest →
     Stands field.next.file.now field.next.at next (row rest) → Stands file start next (row (decimal field.value ∷ rest))
 number_stands file start next field rest n some s =
     row_stands file start field.next.at next (decimal field.value) n.byte rest n.stands.stands (comma_end n.byte n.ends ∙ sym (ending_some rest some))
     (subst (λ (f : List ℕ). Stands f field.next.at next (row rest)) n.stands.same s)
 
 -- the last number of a row stands with its line feed
-pub last_stands : (file : List ℕ) (start : ℕ) (field : Field) → ReadNumber Line file start field → Stands file start field.next.at (row (decimal field.value ∷ []))
+pub last_stands : (file : List ℕ) (start : ℕ) (field : Field ℕ) → ReadNumber Line file start field → Stands file start field.next.at (row (decimal field.value ∷ []))
 last_stands file start field n = subst (λ (c : ℕ). Stands file start field.next.at (decimal field.value ++ c ∷ [])) (line_end n.byte n.ends) n.stands.stands
 
 pub letter_row_stands : (file : List ℕ) (start letter next : ℕ) (mid : Position) (rest : List (List ℕ)) → ReadLetter file start letter mid → 0 < length rest →
@@ -260,7 +260,7 @@ letter_row_stands file start letter next mid rest n some s =
 pub passed_on : (k : Key) (file : List ℕ) (start : ℕ) (broken : BrokenForm) (r : Result Read BrokenForm) → IsErrAnd r (λ y. y ≡ broken) → BreaksAt (RowForm (FieldsOf k)) file start broken.place → ReadsBody k file start r
 passed_on k file start broken r e b = err_passed (λ read. ReadBody k file start read) (λ y. BreaksAt (Body k) file start y.place) broken r e (body_breaks k file start broken.place b)
 
-pub lettered_stand : (file : List ℕ) (start : ℕ) (a : Field) (letter : ℕ) (mid : Position) (b : Field) → ReadNumber Comma file start a → ReadLetter a.next.file.now a.next.at letter mid → ReadNumber Line mid.file.now mid.at b →
+pub lettered_stand : (file : List ℕ) (start : ℕ) (a : Field ℕ) (letter : ℕ) (mid : Position) (b : Field ℕ) → ReadNumber Comma file start a → ReadLetter a.next.file.now a.next.at letter mid → ReadNumber Line mid.file.now mid.at b →
     Stands file start b.next.at (row (decimal a.value ∷ (letter ∷ []) ∷ decimal b.value ∷ []))
 lettered_stand file start a letter mid b p q r =
     number_stands file start b.next.at a ((letter ∷ []) ∷ decimal b.value ∷ []) p (omega arith)

@@ -33,7 +33,7 @@ abbrev pub NoEnd : End → List ℕ → ℕ → Type 0
 NoEnd end file at = (byte : ℕ) → EndAt end file at byte → ⊥
 
 -- a number was read with the byte that ends it
-pub record ReadNumber (end : End) (file : List ℕ) (start : ℕ) (field : Field) : Type 0 where
+pub record ReadNumber (end : End) (file : List ℕ) (start : ℕ) (field : Field ℕ) : Type 0 where
   pub word : Word field.value
   pub byte : ℕ
   pub ends : allowed end byte ≡ true

@@ -8,7 +8,7 @@ use Rattle.file.specs.Place.{StandsBefore}
 use Rattle.file.specs.Row.{row}
 use Rattle.file.specs.declared.field.End.{End}
 use Rattle.file.specs.declared.field.End.TheVariants.{CommaOrLine, Line}
-use Rattle.file.specs.declared.offer.BlockRead.{BlockRead}
+use Rattle.file.specs.declared.field.Field.{Field}
 use Rattle.file.specs.declared.position.Position.{Position}
 
 -- a block and a byte that may end it
@@ -21,13 +21,13 @@ pub record BlockField (end : End) (text : List ℕ) : Type 0 where
   pub same : text ≡ block_text block ++ byte ∷ []
 
 -- a block was read with the byte that ends it
-pub record ReadBlock (end : End) (file : List ℕ) (start : ℕ) (read : BlockRead) : Type 0 where
-  pub size : Word read.block.size
-  pub price : Word read.block.price
+pub record ReadBlock (end : End) (file : List ℕ) (start : ℕ) (read : Field Block) : Type 0 where
+  pub size : Word read.value.size
+  pub price : Word read.value.price
   pub byte : ℕ
   pub ends : allowed end byte ≡ true
   pub line : read.ends_line ≡ (byte == 10)
-  pub stands : StandsBefore file start read.next (block_text read.block ++ byte ∷ [])
+  pub stands : StandsBefore file start read.next (block_text read.value ++ byte ∷ [])
 
 -- the seventh block is the last
 abbrev pub block_end : ℕ → End

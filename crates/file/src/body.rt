@@ -1,29 +1,18 @@
 ghost use Rattle.std.specs.Prelude.{◌≡◌, ◌<◌, MatchResult};
-ghost use Rattle.file.specs.Numbers.{row_end, NumberRow};
+ghost use Rattle.file.specs.Numbers.{NumberRow};
 
 use crate::broken::BrokenForm;
 use crate::field::End;
 use crate::item::Item;
 use crate::key::Key;
 use crate::position::Position;
+use crate::row::row_end;
 
 // What a line says, and the place behind its line feed.
 #[derive(Clone, Copy)]
 pub struct Read {
     pub item: Item,
     pub next: usize,
-}
-
-// What ends the number at a place of a row: a line feed behind the last one, else a comma.
-fn row_end(place: usize, count: usize) -> End
-    requires { place < count }
-    ensures { result ≡ row_end place count }
-{
-    if place + 1 < count {
-        End::Comma
-    } else {
-        End::Line
-    }
 }
 
 impl<'a> Position<'a> {
@@ -38,7 +27,7 @@ impl<'a> Position<'a> {
         let mut values = [0; N];
         let mut next = self;
         for (i, value) in values.iter_mut().enumerate() {
-            let field = next.field(row_end(i, N))?;
+            let field = next.field(row_end(i, N, End::Comma, End::Line))?;
             *value = field.value;
             next = field.next;
         }

@@ -26,10 +26,10 @@ impl End {
     }
 }
 
-// A number of a line, whether a line feed ends it, and the position behind the byte that ends it.
+// A value of a line, whether a line feed ends it, and the position behind the byte that ends it.
 #[derive(Clone, Copy)]
-pub struct Field<'a> {
-    pub value: u32,
+pub struct Field<'a, T> {
+    pub value: T,
     pub ends_line: bool,
     pub next: Position<'a>,
 }
@@ -42,23 +42,16 @@ impl<'a> Position<'a> {
     fn end_byte(self, end: End) -> Option<u8>
         ensures { MatchOption result (NoEnd end self.entry.file.now self.entry.at) (λ byte. EndAt end self.entry.file.now self.entry.at byte) }
     {
-        let Some(byte) = self.byte() else {
-            return None;
-        };
-        if end.allows(byte) { Some(byte) } else { None }
+        self.byte().filter(|byte| end.allows(*byte))
     }
 
     // Reads a number and the byte that ends it, or gives the place that breaks this form.
-    pub fn field(self, end: End) -> Result<Field<'a>, BrokenForm>
+    pub fn field(self, end: End) -> Result<Field<'a, u32>, BrokenForm>
         ensures { MatchResult result (λ field. ReadNumber end self.entry.file.now self.entry.at field) (λ broken. BreaksAt (NumberField end) self.entry.file.now self.entry.at broken.place) }
     {
-        let Some(number) = self.number() else {
-            return Err(self.broken());
-        };
+        let number = self.number().ok_or(self.broken())?;
         let next = number.next;
-        let Some(byte) = next.end_byte(end) else {
-            return Err(next.broken());
-        };
+        let byte = next.end_byte(end).ok_or(next.broken())?;
         Ok(Field {
             value: number.value,
             ends_line: byte == b'\n',

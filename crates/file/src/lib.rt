@@ -13,6 +13,7 @@ mod number;
 mod offer;
 mod position;
 mod print;
+mod row;
 mod rule;
 mod size;
 mod statement;

@@ -34,15 +34,12 @@ fn scan_line(file: &[u8], start: usize, last: Option<Key>) -> Result<Read, Broke
         return Err(BrokenForm { place: 1 });
     }
     let here = Position { file, at: start };
-    let Some(key) = here.key(last) else {
-        return Err(BrokenForm { place: 1 });
-    };
-    match here.behind(key.text().len()).body(key) {
-        Ok(read) => Ok(read),
-        Err(broken) => Err(BrokenForm {
+    let key = here.key(last).ok_or(BrokenForm { place: 1 })?;
+    here.behind(key.text().len())
+        .body(key)
+        .map_err(|broken| BrokenForm {
             place: broken.place - start + 1,
-        }),
-    }
+        })
 }
 
 // Reads the line at a place, whose key may follow the last one, or gives the place in the line, from 1, that breaks its form.

@@ -4,20 +4,12 @@ ghost use Rattle.file.specs.Offer.{BlockField, block_end, BlockRow};
 
 use crate::body::Read;
 use crate::broken::BrokenForm;
-use crate::field::End;
+use crate::field::{End, Field};
 use crate::item::Item;
 use crate::key::Key;
 use crate::position::Position;
 use arrayvec::ArrayVec;
 use prices::{Block, BlockList};
-
-// A block of an offer, whether a line feed ends it, and the position behind the byte that ends it.
-#[derive(Clone, Copy)]
-struct BlockRead<'a> {
-    block: Block,
-    ends_line: bool,
-    next: Position<'a>,
-}
 
 // What may end a block behind so many others: the seventh block is the last.
 fn block_end(before: usize) -> End
@@ -45,13 +37,13 @@ impl<'a> Position<'a> {
     ghost use Rattle.file.specs.Place.{BreaksAt};
 
     // Reads a block and the byte that ends it, or gives the place that breaks this form.
-    fn block(self, end: End) -> Result<BlockRead<'a>, BrokenForm>
+    fn block(self, end: End) -> Result<Field<'a, Block>, BrokenForm>
         ensures { MatchResult result (λ read. ReadBlock end self.entry.file.now self.entry.at read) (λ broken. BreaksAt (BlockField end) self.entry.file.now self.entry.at broken.place) }
     {
         let size = self.field(End::Colon)?;
         let price = size.next.field(end)?;
-        Ok(BlockRead {
-            block: Block {
+        Ok(Field {
+            value: Block {
                 size: size.value,
                 price: price.value,
             },
@@ -69,7 +61,7 @@ impl<'a> Position<'a> {
         let mut next = self;
         loop {
             let read = next.block(block_end(blocks.len()))?;
-            blocks.push(read.block);
+            blocks.push(read.value);
             next = read.next;
             if read.ends_line {
                 return Ok((blocks, next));

@@ -3,18 +3,11 @@ ghost use Rattle.file.specs.Figure.{figure_text};
 ghost use Rattle.file.specs.Row.{row};
 
 use crate::figure::Figure;
+use crate::row::row_end;
 use arrayvec::ArrayVec;
 
 // A line as it is printed: a key of at most 6 bytes, and at most 7 figures of at most 20 bytes with the byte behind each.
 pub type LineText = ArrayVec<u8, 153>;
-
-// The byte behind the figure at a place of a row: a line feed behind the last one, else a comma.
-fn ending(place: usize, count: usize) -> u8
-    requires { place < count }
-    ensures { result ≡ (if nat_lt (place + 1) count then 44 else 10) }
-{
-    if place + 1 < count { b',' } else { b'\n' }
-}
 
 // The line of a key with its equals sign and a row of figures.
 pub fn line_text(key: &[u8], figures: &[Figure]) -> LineText
@@ -26,7 +19,7 @@ pub fn line_text(key: &[u8], figures: &[Figure]) -> LineText
     text.try_extend_from_slice(key).unwrap();
     for (i, figure) in figures.iter().enumerate() {
         text.try_extend_from_slice(&figure.text()).unwrap();
-        text.push(ending(i, figures.len()));
+        text.push(row_end(i, figures.len(), b',', b'\n'));
     }
     text
 }

@@ -5,6 +5,7 @@ use crate::statement::{PrintLine, TextTooShort, print_lines};
 use std::test::Fail;
 
 // The place at which a line that ends the file breaks; 0 if it is sound.
+// Places count from 1, so that 0 is none in the tables of these tests.
 fn place(line: &[u8], last: Option<Key>) -> usize {
     match read_line(line, 0, last) {
         Ok(_) => 0,

@@ -87,7 +87,8 @@ impl Book {
         if kwh > MOST_ENERGY {
             return Err(Fault::EnergyOutOfRange(asset));
         }
-        self.market.records[place].reading = Some(kwh);
+        let record = &mut self.market.records[place];
+        record.reading = Some(kwh);
         Ok(())
     }
 

@@ -3,14 +3,13 @@ use Rattle.std.proofs.Common.{◌≡◌, ℕ, ◌+◌, List, ◌++◌, length, d
 use Rattle.std.specs.List.{between}
 use Rattle.std.proofs.lemmas.List.{append_assoc}
 use Rattle.std.proofs.lemmas.List.Edits.{length-between}
-use Rattle.file.specs.Item.{Sound, key_of, fields, writing}
+use Rattle.file.specs.Item.{Item, Sound, key_of, fields, writing}
 use Rattle.file.specs.Key.{key_text, NoKey}
 use Rattle.file.specs.Line.{BrokenFields, ReadsLine, Exactly}
 use Rattle.file.specs.Place.{Stands}
 use Rattle.file.specs.Row.{row}
 use Rattle.file.specs.declared.body.Read.{Read}
 use Rattle.file.specs.declared.broken.BrokenForm.{BrokenForm}
-use Rattle.file.specs.declared.item.Item.{Item}
 use Rattle.file.specs.declared.key.Key.{Key}
 use Rattle.file.proofs.Places.{drop_stands, stands_from_drop}
 use Rattle.file.proofs.Readings.{written_once, key_unique}

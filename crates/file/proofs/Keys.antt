@@ -44,7 +44,7 @@ order_small Meter = omega arith
 order_small Instruct = omega arith
 order_small Rule = omega arith
 
-abbrev keys : List Key
+abbrev pub keys : List Key
 keys = Hour ∷ Asset ∷ Offer ∷ Order ∷ Shed ∷ Meter ∷ Instruct ∷ Rule ∷ []
 
 -- the first key that is found of all

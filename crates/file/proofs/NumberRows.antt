@@ -8,11 +8,10 @@ use Rattle.file.specs.Place.{Stands, BreaksAt}
 use Rattle.file.specs.Field.{allowed, NumberField, ReadNumber}
 use Rattle.file.specs.Row.{row, ending}
 use Rattle.file.specs.Body.{ReadBody}
-use Rattle.file.specs.Item.{Sound, key_of, fields}
+use Rattle.file.specs.Item.{Item, Sound, key_of, fields}
 use Rattle.file.specs.declared.field.End.{End}
 use Rattle.file.specs.declared.field.End.TheVariants.{Comma, Line}
 use Rattle.file.specs.declared.field.Field.{Field}
-use Rattle.file.specs.declared.item.Item.{Item}
 use Rattle.file.specs.declared.position.Position.{Position}
 use Rattle.file.proofs.Places.{same_form_breaks, nothing_stands}
 use Rattle.file.proofs.Rows.{RowForm, Cons, Calls, NumberText, comma_end, line_end, row_stands}

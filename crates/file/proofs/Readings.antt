@@ -5,11 +5,10 @@ use Rattle.std.proofs.lemmas.List.{append_assoc, append_cancel_left}
 use Rattle.std.proofs.lemmas.Bool.{cond-false, ne_eqb}
 use Rattle.prices.specs.Block.{block_list, listed}
 use Rattle.prices.specs.declared.block.Block.{Block}
-use Rattle.file.specs.Item.{Sound, BlockWords, key_of, fields, writing, block_text, rule_text}
+use Rattle.file.specs.Item.{Item, Sound, BlockWords, key_of, fields, writing, block_text, rule_text}
 use Rattle.file.specs.Key.{key_text}
 use Rattle.file.specs.Number.{Word}
 use Rattle.file.specs.Row.{row, ending}
-use Rattle.file.specs.declared.item.Item.{Item}
 use Rattle.file.specs.declared.item.Item.TheVariants.{Hour, Asset, Offer, Order, Shed, Meter, Instruct, Rule}
 use Rattle.file.specs.declared.item.RuleName.{RuleName}
 use Rattle.file.specs.declared.item.RuleName.TheVariants.{Largest, Running}

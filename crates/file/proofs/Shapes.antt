@@ -8,7 +8,7 @@ use Rattle.file.specs.Number.{Word}
 use Rattle.file.specs.Numbers.{Words}
 use Rattle.file.specs.Place.{Stands, BreaksAt}
 use Rattle.file.specs.Field.{allowed, NumberField, LetterField, ReadNumber, ReadLetter}
-use Rattle.file.specs.Item.{Sound, SoundBlocks, BlockWords, key_of, fields, block_text, rule_text}
+use Rattle.file.specs.Item.{Item, Sound, SoundBlocks, BlockWords, key_of, fields, block_text, rule_text}
 use Rattle.file.specs.declared.body.Read.{Read}
 use Rattle.file.specs.Body.{Body, ReadBody, ReadsBody}
 use Rattle.file.specs.Row.{row, ending}
@@ -16,7 +16,6 @@ use Rattle.file.specs.declared.field.End.{End}
 use Rattle.file.specs.declared.field.End.TheVariants.{Comma, Line}
 use Rattle.file.specs.declared.field.Field.{Field}
 use Rattle.file.specs.declared.broken.BrokenForm.{BrokenForm}
-use Rattle.file.specs.declared.item.Item.{Item}
 use Rattle.file.specs.declared.item.Item.TheVariants.{Hour, Asset, Offer, Order, Shed, Meter, Instruct, Rule}
 use Rattle.file.specs.declared.item.RuleName.{RuleName}
 use Rattle.file.specs.declared.key.Key.{Key}

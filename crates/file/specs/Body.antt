@@ -1,11 +1,10 @@
 -- What stands behind a key: it is read as an item exactly as far as it is that item's writing. Assumes nothing.
 use Rattle.std.specs.Prelude.{◌≡◌, ℕ, List, Result, MatchResult}
-use Rattle.file.specs.Item.{Sound, key_of, fields}
+use Rattle.file.specs.Item.{Item, Sound, key_of, fields}
 use Rattle.file.specs.Place.{Stands, BreaksAt}
 use Rattle.file.specs.Row.{row}
 use Rattle.file.specs.declared.body.Read.{Read}
 use Rattle.file.specs.declared.broken.BrokenForm.{BrokenForm}
-use Rattle.file.specs.declared.item.Item.{Item}
 use Rattle.file.specs.declared.key.Key.{Key}
 
 -- what may stand behind a key

@@ -1,11 +1,10 @@
 -- A line of the file: read as an item, or broken at a place that is counted in the line from 1. Assumes nothing.
 use Rattle.std.specs.Prelude.{◌≡◌, ℕ, ◌+◌, true, ◌⊎◌, List, Ok, Option, Result, MatchResult}
-use Rattle.file.specs.Item.{Sound, key_of, writing}
+use Rattle.file.specs.Item.{Item, Sound, key_of, writing}
 use Rattle.file.specs.Key.{follows, NoKey, FoundKey}
 use Rattle.file.specs.Place.{Stands, BreaksAt}
 use Rattle.file.specs.declared.body.Read.{Read}
 use Rattle.file.specs.declared.broken.BrokenForm.{BrokenForm}
-use Rattle.file.specs.declared.item.Item.{Item}
 use Rattle.file.specs.declared.key.Key.{Key}
 
 -- the writing of an item of a key

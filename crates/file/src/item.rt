@@ -11,9 +11,9 @@ pub enum RuleName {
     Running,
 }
 
-// What a line of the file says.
+// What a line of the file says. `read_line` holds the blocks of an offer in a list; an item's key asks nothing of them.
 #[derive(Clone, Copy)]
-pub enum Item {
+pub enum Item<Blocks = BlockList> {
     Hour {
         label: u32,
     },
@@ -24,7 +24,7 @@ pub enum Item {
     },
     Offer {
         asset: u32,
-        blocks: BlockList,
+        blocks: Blocks,
     },
     Order {
         asset: u32,
@@ -50,7 +50,7 @@ pub enum Item {
     },
 }
 
-impl Item {
+impl<Blocks> Item<Blocks> {
     // The key of the item's line.
     pub fn key(&self) -> Key
         ensures { result ≡ key_of self.now }

@@ -70,6 +70,6 @@ impl<'a> Position<'a> {
     pub fn key(self, last: Option<Key>) -> Option<Key>
         ensures { MatchOption result (NoKey self.entry.file.now self.entry.at last) (λ key. FoundKey self.entry.file.now self.entry.at last key) }
     {
-        KEYS.into_iter().find(|key| self.has_key(*key, last))
+        KEYS.iter().copied().find(|key| self.has_key(*key, last))
     }
 }

@@ -2,6 +2,7 @@ use crate::item::Item;
 use crate::key::Key;
 use crate::line::read_line;
 use crate::statement::{PrintLine, TextTooShort, print_lines};
+use prices::Block;
 use std::test::Fail;
 
 // The place at which a line that ends the file breaks; 0 if it is sound.
@@ -59,6 +60,18 @@ fn an_offer_is_read(rt: HostRuntime) -> Result<(), Fail> {
             Ok(())
         },
         _ => Err(Fail::new("no offer")),
+    }
+}
+
+#[test]
+fn an_items_key_asks_nothing_of_its_blocks(rt: HostRuntime) {
+    let held = [Block { size: 5, price: 9 }; 7];
+    for count in [0usize, 7, 8] {
+        let offer = Item::Offer {
+            asset: 1,
+            blocks: (held, count),
+        };
+        assert_eq!(rt; offer.key(), Key::Offer);
     }
 }
 

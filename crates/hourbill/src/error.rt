@@ -7,7 +7,7 @@ use std::io;
 use thiserror::Error;
 
 // Why a line cannot be read.
-#[derive(Debug, Drop, Error)]
+#[derive(Clone, Copy, Debug, Error)]
 pub enum Fault {
     #[error("there is no memory left")]
     NoMemory(#[from(alloc)] AllocError),
@@ -54,7 +54,7 @@ impl Fault {
 }
 
 // The first line of a file that cannot be read, counted from 1.
-#[derive(Debug, Drop, Error)]
+#[derive(Clone, Copy, Debug, Error)]
 #[error("line {number} cannot be read: {fault}")]
 pub struct BadLine {
     pub number: usize,

@@ -10,11 +10,10 @@ use Rattle.hour.specs.Priced.{OnlyReading, Metering, Proposal}
 use Rattle.ledger.specs.Call.{meter, propose, confirm, calls_of}
 use Rattle.ledger.specs.Ledger.{book_of, ledger_of}
 use Rattle.ledger.proofs.Agreement.{book_agrees}
-use Rattle.file.specs.Item.{key_of}
+use Rattle.file.specs.Item.{Item, key_of}
 use Rattle.file.specs.Key.{order_of, follows}
 use Rattle.file.specs.Line.{ReadLine}
 use Rattle.file.specs.declared.body.Read.{Read}
-use Rattle.file.specs.declared.item.Item.{Item}
 use Rattle.file.specs.declared.item.Item.TheVariants.{Hour, Asset, Offer, Order, Shed, Meter, Instruct, Rule}
 use Rattle.file.specs.declared.item.RuleName.{RuleName}
 use Rattle.file.specs.declared.key.Key.{Key}

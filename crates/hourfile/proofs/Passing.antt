@@ -6,12 +6,11 @@ use Rattle.std.proofs.lemmas.Bool.{and_from, not_from_false, ltb-true}
 use Rattle.hour.specs.Reason.{Reason, answer}
 use Rattle.hour.proofs.Outcomes.{NoneFits, none_fits}
 use Rattle.ledger.specs.Trade.{accepted}
-use Rattle.file.specs.Item.{key_of, fields, writing}
+use Rattle.file.specs.Item.{Item, key_of, fields, writing}
 use Rattle.file.specs.Key.{key_text, order_of, follows}
 use Rattle.file.specs.Line.{ReadLine, BrokenLine}
 use Rattle.file.specs.Row.{row}
 use Rattle.file.specs.declared.body.Read.{Read}
-use Rattle.file.specs.declared.item.Item.{Item}
 use Rattle.file.specs.declared.key.Key.{Key}
 use Rattle.file.specs.declared.key.Key.TheVariants.{Hour, Asset, Offer, Order, Shed, Meter, Instruct, Rule}
 use Rattle.file.proofs.Exact.{stands_long}

@@ -9,11 +9,10 @@ use Rattle.ledger.specs.Trade.{Trade, enrol, offer, order, shedding, LivedTrade,
 use Rattle.ledger.proofs.Agreement.{market_agrees}
 use Rattle.prices.specs.Block.{listed}
 use Rattle.prices.specs.declared.block.BlockList.{BlockList}
-use Rattle.file.specs.Item.{key_of}
+use Rattle.file.specs.Item.{Item, key_of}
 use Rattle.file.specs.Key.{order_of, follows}
 use Rattle.file.specs.Line.{ReadLine}
 use Rattle.file.specs.declared.body.Read.{Read}
-use Rattle.file.specs.declared.item.Item.{Item}
 use Rattle.file.specs.declared.item.Item.TheVariants.{Hour, Asset, Offer, Order, Shed, Meter, Instruct, Rule}
 use Rattle.file.specs.declared.key.Key.TheVariants as line-key
 use Rattle.hourfile.specs.Call as call

@@ -5,10 +5,9 @@ use Rattle.std.proofs.lemmas.Bool.{cases_lt, both_ways}
 use Rattle.hour.specs.declared.fault.Fault as hour
 use Rattle.hour.specs.Reason.{Reason, answer}
 use Rattle.ledger.specs.Trade.{accepted}
-use Rattle.file.specs.Item.{writing}
+use Rattle.file.specs.Item.{Item, writing}
 use Rattle.file.specs.Line.{ReadLine}
 use Rattle.file.specs.declared.body.Read.{Read}
-use Rattle.file.specs.declared.item.Item.{Item}
 use Rattle.file.specs.declared.item.Item.TheVariants as line
 use Rattle.file.specs.declared.item.RuleName.{RuleName}
 use Rattle.file.proofs.Breaking.{broken_once}

@@ -5,12 +5,11 @@ use Rattle.hour.specs.declared.book.Book.{Book}
 use Rattle.hour.specs.Market.{record_at}
 use Rattle.ledger.specs.Trade.{LivedTrade, Traded, trades_of}
 use Rattle.ledger.specs.Call.{Lived, Leads, calls_of}
-use Rattle.file.specs.Item.{key_of}
+use Rattle.file.specs.Item.{Item, key_of}
 use Rattle.file.specs.Key.{order_of}
 use Rattle.file.specs.Line.{ReadLine, BrokenLine}
 use Rattle.file.specs.Place.{Stands}
 use Rattle.file.specs.declared.body.Read.{Read}
-use Rattle.file.specs.declared.item.Item.{Item}
 use Rattle.file.specs.declared.item.Item.TheVariants.{Hour, Rule}
 use Rattle.file.specs.declared.item.RuleName.{RuleName}
 use Rattle.file.specs.declared.key.Key.{Key}

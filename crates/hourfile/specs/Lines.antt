@@ -9,9 +9,8 @@ use Rattle.ledger.specs.Trade.{Trade, enrol, offer, order, shedding, accepted, m
 use Rattle.ledger.specs.Call.{Call, meter, propose, confirm}
 use Rattle.ledger.specs.Ledger.{book_of, ledger_of}
 use Rattle.prices.specs.Block.{listed}
-use Rattle.file.specs.Item.{Sound, key_of, writing}
+use Rattle.file.specs.Item.{Item, Sound, key_of, writing}
 use Rattle.file.specs.Key.{follows}
-use Rattle.file.specs.declared.item.Item.{Item}
 use Rattle.file.specs.declared.item.Item.TheVariants.{Hour, Asset, Offer, Order, Shed, Meter, Instruct, Rule}
 use Rattle.file.specs.declared.key.Key.{Key}
 

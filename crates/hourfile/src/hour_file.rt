@@ -29,9 +29,11 @@ impl<'a> HourFile<'a> {
     pub fn read(self, cursor: Cursor) -> Result<Read, LineFault>
         ensures { MatchResult result (λ read. ReadLine self.entry.bytes.now cursor.start cursor.last read) (λ at. BrokenHere self.entry.bytes.now cursor at) }
     {
-        read_line(self.bytes, cursor.start, cursor.last).map_err(|broken| cursor.fault(
+        // `?` takes the line out first, since an answer of `map_err` that is handed on whole is copied once more.
+        let read = read_line(self.bytes, cursor.start, cursor.last).map_err(|broken| cursor.fault(
             Fault::IllFormed(broken.place),
-        ))
+        ))?;
+        Ok(read)
     }
 
     // Nothing stands at the cursor, which is behind the last line.

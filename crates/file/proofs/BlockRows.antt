@@ -16,7 +16,7 @@ use Rattle.file.specs.Body.{ReadBody}
 use Rattle.file.specs.declared.field.End.{End}
 use Rattle.file.specs.declared.field.End.TheVariants.{Colon, Comma, Line, CommaOrLine}
 use Rattle.file.specs.declared.field.Field.{Field}
-use Rattle.file.specs.declared.item.Item.TheVariants as item
+use Rattle.file.specs.declared.item.ItemWith.TheVariants as item
 use Rattle.file.specs.declared.key.Key.TheVariants.{Offer}
 use Rattle.file.specs.declared.position.Position.{Position}
 use Rattle.file.proofs.Fields.{some_end}

@@ -9,7 +9,7 @@ use Rattle.file.specs.Item.{Item, Sound, BlockWords, key_of, fields, writing, bl
 use Rattle.file.specs.Key.{key_text}
 use Rattle.file.specs.Number.{Word}
 use Rattle.file.specs.Row.{row, ending}
-use Rattle.file.specs.declared.item.Item.TheVariants.{Hour, Asset, Offer, Order, Shed, Meter, Instruct, Rule}
+use Rattle.file.specs.declared.item.ItemWith.TheVariants.{Hour, Asset, Offer, Order, Shed, Meter, Instruct, Rule}
 use Rattle.file.specs.declared.item.RuleName.{RuleName}
 use Rattle.file.specs.declared.item.RuleName.TheVariants.{Largest, Running}
 use Rattle.file.specs.declared.key.Key.{Key}

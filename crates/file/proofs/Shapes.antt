@@ -16,7 +16,7 @@ use Rattle.file.specs.declared.field.End.{End}
 use Rattle.file.specs.declared.field.End.TheVariants.{Comma, Line}
 use Rattle.file.specs.declared.field.Field.{Field}
 use Rattle.file.specs.declared.broken.BrokenForm.{BrokenForm}
-use Rattle.file.specs.declared.item.Item.TheVariants.{Hour, Asset, Offer, Order, Shed, Meter, Instruct, Rule}
+use Rattle.file.specs.declared.item.ItemWith.TheVariants.{Hour, Asset, Offer, Order, Shed, Meter, Instruct, Rule}
 use Rattle.file.specs.declared.item.RuleName.{RuleName}
 use Rattle.file.specs.declared.key.Key.{Key}
 use Rattle.file.specs.declared.key.Key.TheVariants as key

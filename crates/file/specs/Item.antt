@@ -7,8 +7,8 @@ use Rattle.file.specs.Field.{Capital}
 use Rattle.file.specs.Key.{key_text}
 use Rattle.file.specs.Number.{Word}
 use Rattle.file.specs.Row.{row}
-use Rattle.file.specs.declared.item.Item as declared
-use Rattle.file.specs.declared.item.Item.TheVariants.{Hour, Asset, Offer, Order, Shed, Meter, Instruct, Rule}
+use Rattle.file.specs.declared.item.ItemWith.{ItemWith}
+use Rattle.file.specs.declared.item.ItemWith.TheVariants.{Hour, Asset, Offer, Order, Shed, Meter, Instruct, Rule}
 use Rattle.file.specs.declared.item.RuleName.{RuleName}
 use Rattle.file.specs.declared.item.RuleName.TheVariants.{Largest, Running}
 use Rattle.file.specs.declared.key.Key.{Key}
@@ -16,10 +16,10 @@ use Rattle.file.specs.declared.key.Key.TheVariants as key
 
 -- what a line says, with the blocks of an offer in a list
 abbrev pub Item : Type 0
-Item = declared.Item BlockList
+Item = ItemWith BlockList
 
 -- the key of an item's line, whatever the blocks of an offer are held in
-abbrev pub key_of : {Blocks : Type 0} → declared.Item Blocks → Key
+abbrev pub key_of : {Blocks : Type 0} → ItemWith Blocks → Key
 key_of (Hour label) = key.Hour
 key_of (Asset asset letter owner) = key.Asset
 key_of (Offer asset blocks) = key.Offer

@@ -11,9 +11,9 @@ pub enum RuleName {
     Running,
 }
 
-// What a line of the file says. `read_line` holds the blocks of an offer in a list; an item's key asks nothing of them.
+// What a line of the file says, with the blocks of an offer held in any type; the key of an item asks nothing of them.
 #[derive(Clone, Copy)]
-pub enum Item<Blocks = BlockList> {
+pub enum ItemWith<Blocks> {
     Hour {
         label: u32,
     },
@@ -50,20 +50,23 @@ pub enum Item<Blocks = BlockList> {
     },
 }
 
-impl<Blocks> Item<Blocks> {
+// What a line of the file says, as it is read: the blocks of an offer are a list.
+pub type Item = ItemWith<BlockList>;
+
+impl<Blocks> ItemWith<Blocks> {
     // The key of the item's line.
     pub fn key(&self) -> Key
         ensures { result ≡ key_of self.now }
     {
         match self {
-            Item::Hour { .. } => Key::Hour,
-            Item::Asset { .. } => Key::Asset,
-            Item::Offer { .. } => Key::Offer,
-            Item::Order { .. } => Key::Order,
-            Item::Shed { .. } => Key::Shed,
-            Item::Meter { .. } => Key::Meter,
-            Item::Instruct { .. } => Key::Instruct,
-            Item::Rule { .. } => Key::Rule,
+            ItemWith::Hour { .. } => Key::Hour,
+            ItemWith::Asset { .. } => Key::Asset,
+            ItemWith::Offer { .. } => Key::Offer,
+            ItemWith::Order { .. } => Key::Order,
+            ItemWith::Shed { .. } => Key::Shed,
+            ItemWith::Meter { .. } => Key::Meter,
+            ItemWith::Instruct { .. } => Key::Instruct,
+            ItemWith::Rule { .. } => Key::Rule,
         }
     }
 }

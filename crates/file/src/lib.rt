@@ -22,7 +22,7 @@ mod tests;
 
 pub use body::Read;
 pub use broken::BrokenForm;
-pub use item::{Item, RuleName};
+pub use item::{Item, ItemWith, RuleName};
 pub use key::Key;
 pub use line::read_line;
 pub use size::{SIZE_LIMIT, is_oversized};

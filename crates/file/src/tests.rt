@@ -1,4 +1,4 @@
-use crate::item::Item;
+use crate::item::{Item, ItemWith};
 use crate::key::Key;
 use crate::line::read_line;
 use crate::statement::{PrintLine, TextTooShort, print_lines};
@@ -67,12 +67,15 @@ fn an_offer_is_read(rt: HostRuntime) -> Result<(), Fail> {
 fn an_items_key_asks_nothing_of_its_blocks(rt: HostRuntime) {
     let held = [Block { size: 5, price: 9 }; 7];
     for count in [0usize, 7, 8] {
-        let offer = Item::Offer {
+        let offer = ItemWith::Offer {
             asset: 1,
             blocks: (held, count),
         };
         assert_eq!(rt; offer.key(), Key::Offer);
     }
+    assert_eq!(rt; Item::Hour { label: 1 }.key(), Key::Hour);
+    let meter = Item::Meter { asset: 1, kwh: 0 };
+    assert_eq!(rt; meter.key(), Key::Meter);
 }
 
 #[test]

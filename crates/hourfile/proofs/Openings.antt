@@ -6,7 +6,7 @@ use Rattle.hour.specs.declared.book.Book.{Book}
 use Rattle.hour.specs.Book.{new_book}
 use Rattle.ledger.proofs.Soundness.{market_sound}
 use Rattle.file.specs.Key.{order_of}
-use Rattle.file.specs.declared.item.Item.TheVariants.{Rule}
+use Rattle.file.specs.declared.item.ItemWith.TheVariants.{Rule}
 use Rattle.file.specs.declared.item.RuleName.{RuleName}
 use Rattle.file.proofs.Places.{nothing_stands}
 use Rattle.hourfile.specs.Cursor.{BrokenHere, Behind, Trading, CameTo, EntryNext, Entering, Ruled}

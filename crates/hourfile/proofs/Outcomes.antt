@@ -23,7 +23,7 @@ use Rattle.ledger.specs.Law.{CameBy, nets_due}
 use Rattle.ledger.proofs.Agreement.{market_agrees, book_agrees}
 use Rattle.ledger.proofs.PostedLines.{posted_nets}
 use Rattle.file.specs.Item.{Item}
-use Rattle.file.specs.declared.item.Item.TheVariants as line
+use Rattle.file.specs.declared.item.ItemWith.TheVariants as line
 use Rattle.file.specs.declared.item.RuleName.{RuleName}
 use Rattle.file.specs.declared.item.RuleName.TheVariants.{Largest, Running}
 use Rattle.file.specs.declared.statement.PrintLine.{PrintLine}

@@ -13,7 +13,7 @@ use Rattle.file.specs.Item.{Item, key_of}
 use Rattle.file.specs.Key.{order_of, follows}
 use Rattle.file.specs.Line.{ReadLine}
 use Rattle.file.specs.declared.body.Read.{Read}
-use Rattle.file.specs.declared.item.Item.TheVariants.{Hour, Asset, Offer, Order, Shed, Meter, Instruct, Rule}
+use Rattle.file.specs.declared.item.ItemWith.TheVariants.{Hour, Asset, Offer, Order, Shed, Meter, Instruct, Rule}
 use Rattle.file.specs.declared.key.Key.TheVariants as line-key
 use Rattle.hourfile.specs.Call as call
 use Rattle.hourfile.specs.Call.{EntryLine}

@@ -8,7 +8,7 @@ use Rattle.ledger.specs.Trade.{accepted}
 use Rattle.file.specs.Item.{Item, writing}
 use Rattle.file.specs.Line.{ReadLine}
 use Rattle.file.specs.declared.body.Read.{Read}
-use Rattle.file.specs.declared.item.Item.TheVariants as line
+use Rattle.file.specs.declared.item.ItemWith.TheVariants as line
 use Rattle.file.specs.declared.item.RuleName.{RuleName}
 use Rattle.file.proofs.Breaking.{broken_once}
 use Rattle.file.proofs.Exact.{exactly, stands_long}

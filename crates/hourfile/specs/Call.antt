@@ -9,7 +9,7 @@ use Rattle.hour.specs.Priced.{Metering, Proposal, Confirmation}
 use Rattle.ledger.specs.Trade.{Trade, enrol, offer, order, shedding, TradeMade}
 use Rattle.prices.specs.Block.{listed}
 use Rattle.file.specs.Item.{Item}
-use Rattle.file.specs.declared.item.Item.TheVariants.{Hour, Asset, Offer, Order, Shed, Meter, Instruct, Rule}
+use Rattle.file.specs.declared.item.ItemWith.TheVariants.{Hour, Asset, Offer, Order, Shed, Meter, Instruct, Rule}
 use Rattle.file.specs.declared.item.RuleName.{RuleName}
 use Rattle.hourfile.specs.declared.fault.Fault.{Fault}
 use Rattle.hourfile.specs.declared.fault.Fault.TheVariants as of_file

@@ -10,7 +10,7 @@ use Rattle.file.specs.Key.{order_of}
 use Rattle.file.specs.Line.{ReadLine, BrokenLine}
 use Rattle.file.specs.Place.{Stands}
 use Rattle.file.specs.declared.body.Read.{Read}
-use Rattle.file.specs.declared.item.Item.TheVariants.{Hour, Rule}
+use Rattle.file.specs.declared.item.ItemWith.TheVariants.{Hour, Rule}
 use Rattle.file.specs.declared.item.RuleName.{RuleName}
 use Rattle.file.specs.declared.key.Key.{Key}
 use Rattle.file.specs.declared.key.Key.TheVariants as key

@@ -11,7 +11,7 @@ use Rattle.ledger.specs.Ledger.{book_of, ledger_of}
 use Rattle.prices.specs.Block.{listed}
 use Rattle.file.specs.Item.{Item, Sound, key_of, writing}
 use Rattle.file.specs.Key.{follows}
-use Rattle.file.specs.declared.item.Item.TheVariants.{Hour, Asset, Offer, Order, Shed, Meter, Instruct, Rule}
+use Rattle.file.specs.declared.item.ItemWith.TheVariants.{Hour, Asset, Offer, Order, Shed, Meter, Instruct, Rule}
 use Rattle.file.specs.declared.key.Key.{Key}
 
 -- the writing of lines one after another

@@ -31,7 +31,7 @@ impl fmt::Display for Sentence {
         let line = InLine(self.0.line);
         match self.0.fault {
             Fault::Hour(fault) => {
-                let reason = Reason(fault);
+                let reason = Reason(fault).words();
                 let subject = fault.subject();
                 write!(f, "{line}{reason} ({subject})")
             }

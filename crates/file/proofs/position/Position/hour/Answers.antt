@@ -1,5 +1,5 @@
 use Rattle.std.proofs.Common.{refl}
-use Rattle.file.specs.declared.item.Item.TheVariants as item
+use Rattle.file.specs.declared.item.ItemWith.TheVariants as item
 use Rattle.file.specs.declared.key.Key.TheVariants.{Hour}
 use Rattle.file.proofs.NumberRows.{numbers_read, row_of_numbers}
 use Rattle.file.proofs.Shapes.{passed_on, one_value}

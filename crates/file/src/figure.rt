@@ -1,4 +1,4 @@
-ghost use Rattle.std.specs.Prelude.{◌≡◌, ◌≤◌, length};
+ghost use Rattle.std.specs.Prelude.{◌≡◌, ◌≤◌, ◌+◌, ◌++◌, length};
 ghost use Rattle.file.specs.Figure.{figure_text};
 ghost use Rattle.file.specs.declared.figure.Figure.TheVariants.{Natural, Signed};
 
@@ -13,26 +13,31 @@ pub enum Figure {
     Letter(u8),
 }
 
-// A figure as it is printed, in at most 20 bytes.
-pub type FigureText = ArrayVec<u8, 20>;
+// The most bytes of a line: a key of at most 6 bytes, and at most 7 figures of at most 20 bytes with the byte behind each.
+pub const LONGEST_LINE: usize = 153;
 
-// These bytes as the text of a figure.
-fn short_text(bytes: &[u8]) -> FigureText
-    requires { length bytes.now ≤ 20 }
-    ensures { result.items ≡ bytes.now }
+// A line as it is printed.
+pub type LineText = ArrayVec<u8, LONGEST_LINE>;
+
+// Puts these bytes behind a line's text.
+fn extend(text: &mut LineText, bytes: &[u8])
+    requires { length text.old.items + length bytes.now ≤ 153 }
+    ensures { text.new.items ≡ text.old.items ++ bytes.now }
 {
-    FigureText::try_from(bytes).unwrap()
+    text.try_extend_from_slice(bytes).unwrap();
 }
 
 impl Figure {
-    // How this figure is printed.
-    pub fn text(self) -> FigureText
-        ensures { result.items ≡ figure_text self }
+    // Puts how this figure is printed, in at most 20 bytes, behind a line's text.
+    pub fn print(self, text: &mut LineText)
+        requires { length text.old.items + 20 ≤ 153 }
+        ensures added { text.new.items ≡ text.old.items ++ figure_text self }
+        ensures short { length (figure_text self) ≤ 20 }
     {
         match self {
-            Figure::Natural(value) => short_text(Buffer::new().format(value).as_bytes()),
-            Figure::Signed(value) => short_text(Buffer::new().format(value).as_bytes()),
-            Figure::Letter(letter) => short_text(&[letter]),
+            Figure::Natural(value) => extend(text, Buffer::new().format(value).as_bytes()),
+            Figure::Signed(value) => extend(text, Buffer::new().format(value).as_bytes()),
+            Figure::Letter(letter) => extend(text, &[letter]),
         }
     }
 }

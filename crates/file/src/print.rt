@@ -2,12 +2,8 @@ ghost use Rattle.std.specs.Prelude.{◌≡◌, ◌≤◌, ◌++◌, map, length}
 ghost use Rattle.file.specs.Figure.{figure_text};
 ghost use Rattle.file.specs.Row.{row};
 
-use crate::figure::Figure;
+use crate::figure::{Figure, LineText};
 use crate::row::row_end;
-use arrayvec::ArrayVec;
-
-// A line as it is printed: a key of at most 6 bytes, and at most 7 figures of at most 20 bytes with the byte behind each.
-pub type LineText = ArrayVec<u8, 153>;
 
 // The line of a key with its equals sign and a row of figures.
 pub fn line_text(key: &[u8], figures: &[Figure]) -> LineText
@@ -18,7 +14,7 @@ pub fn line_text(key: &[u8], figures: &[Figure]) -> LineText
     let mut text = LineText::new();
     text.try_extend_from_slice(key).unwrap();
     for (i, figure) in figures.iter().enumerate() {
-        text.try_extend_from_slice(&figure.text()).unwrap();
+        figure.print(&mut text);
         text.push(row_end(i, figures.len(), b',', b'\n'));
     }
     text

@@ -137,12 +137,12 @@ err_passed {A = A} {E = E} P Q error r e q =
     subst (λ (x : Result A E). MatchResult x P Q) (sym p.1) (subst Q (sym p.2) q)
 
 -- what a `map_err` gives, where a fact of each value and each error is known
-pub error_mapped : {A D E : Type 0} (P P2 : A → Type 0) (Q : E → Type 0) (M : E → D → Type 0) (Q2 : D → Type 0) (r : Result A E) (mapped : Result A D) →
-    MatchResult r P Q → MatchResult r (λ x. mapped ≡ Ok x) (λ e. IsErrAnd mapped (λ d. M e d)) → ((x : A) → P x → P2 x) → ((e : E) (d : D) → Q e → M e d → Q2 d) → MatchResult mapped P2 Q2
-error_mapped P P2 Q M Q2 (Ok x) mapped p m ok err = subst (λ r. MatchResult r P2 Q2) (sym m) (ok x p)
-error_mapped P P2 Q M Q2 (Err e) mapped q m ok err =
+pub error_mapped : {A D E : Type 0} (P P' : A → Type 0) (Q : E → Type 0) (M : E → D → Type 0) (Q' : D → Type 0) (r : Result A E) (mapped : Result A D) →
+    MatchResult r P Q → MatchResult r (λ x. mapped ≡ Ok x) (λ e. IsErrAnd mapped (λ d. M e d)) → ((x : A) → P x → P' x) → ((e : E) (d : D) → Q e → M e d → Q' d) → MatchResult mapped P' Q'
+error_mapped P P' Q M Q' (Ok x) mapped p m ok err = subst (λ r. MatchResult r P' Q') (sym m) (ok x p)
+error_mapped P P' Q M Q' (Err e) mapped q m ok err =
     let p = err_from_is_err_and mapped m in
-    subst (λ r. MatchResult r P2 Q2) (sym p.1) (err e _ q p.2)
+    subst (λ r. MatchResult r P' Q') (sym p.1) (err e _ q p.2)
 
 -- a text stands where the file goes on with it
 pub stands_from_drop : (file : List ℕ) (start : ℕ) (text more : List ℕ) → start ≤ length file → drop start file ≡ text ++ more → Stands file start (start + length text) text
